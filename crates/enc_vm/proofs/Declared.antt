@@ -74,4 +74,4 @@ field_owner_row m f owner at e = (owner_both m f owner e).1
 
 pub ruleset declared_steps = (is_child, owner_is, owner_type, owner_row)
 
-pub ruleset declaring_steps = (is_field_child, owner_is, field_owner_type, field_owner_row)
+pub ruleset declaring_lemmas = (is_field_child, owner_is, field_owner_type, field_owner_row)

@@ -10,7 +10,8 @@ use Rattle.enc_objects.specs.declared.value.Value.{Value}
 use Rattle.enc_objects.specs.declared.value.Value.TheVariants.{Null, Obj}
 use Rattle.enc_versions.specs.Version.{Version}
 use Rattle.enc_frames.specs.ArgumentsSeen.{fitting}
-use Rattle.enc_vm.specs.Calls.{most_frames, entering}
+use Rattle.enc_vm.specs.Calls.{construct, most_frames, entering}
+use Rattle.enc_vm.specs.declared.construct.Construction.{Construction}
 use Rattle.enc_frames.specs.Callers.{without_first}
 use Rattle.enc_frames.specs.FramesSeen.{frame_at, with_nearest, nearest_or, with_object_first}
 use Rattle.enc_plain.specs.Module.{Module}
@@ -62,3 +63,7 @@ abbrev pub constructed_on : World Version → Module → ℕ → ℕ → Token �
 constructed_on w m next n class method args t s =
     frame_made w m method args >>= λ f. ask X11 (nat_lt (length t.below + 1) most_frames) >>= λ _.
     object_entered class next n f s.store t >>= λ x. Ok (entered_by s method x)
+
+-- a new object by what stands on the stack
+abbrev pub construct_made : World Version → Construction → Thread Version → Shared → Result (Made Version) Trap
+construct_made w c t s = construct w c.next c.method c.shape t s

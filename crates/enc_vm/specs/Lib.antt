@@ -13,6 +13,9 @@ pub mod Looks
 pub mod ThrowSeen
 pub mod ConstructSeen
 pub mod StaticsSeen
+pub mod World
+pub mod CallMade
+pub mod SharedSeen
 pub mod Room
 pub mod RoomSeen
 pub mod Texts

@@ -11,6 +11,7 @@ use Rattle.enc_frames.specs.Machine.{World, Frame, Thread, Shared}
 use Rattle.enc_frames.specs.Memory.{Stored, load_static, store_static, named_field}
 use Rattle.enc_frames.specs.Results.{◌>>=◌, Made}
 use Rattle.enc_vm.specs.Step.{stored}
+use Rattle.enc_vm.specs.declared.statics.KnownAccess.{KnownAccess}
 use Rattle.enc_vm.specs.declared.statics.StaticAccess.{StaticAccess}
 use Rattle.enc_vm.specs.declared.statics.StaticAccess.TheVariants.{Load, Store}
 
@@ -21,6 +22,9 @@ accessed Store k next field s f = store_static k next field s f
 
 abbrev pub accessed_on : StaticAccess → Kind → ℕ → Token → Thread Version → Shared → Result (Made Version) Trap
 accessed_on access k next field t s = stored s t (accessed access k next field s.store t.top)
+
+abbrev pub access_made : KnownAccess → Thread Version → Shared → Result (Made Version) Trap
+access_made a t s = accessed_on a.access.how a.kind a.access.next a.access.field t s
 
 -- and its type is touched before
 abbrev pub accessed_by : World Version → Module → StaticAccess → ℕ → Token → Shared → Thread Version

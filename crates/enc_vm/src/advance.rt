@@ -1,27 +1,24 @@
 //! The instruction at which a frame stands (ECMA-335 I.12.3.2).
 ghost use Rattle.std.specs.Prelude.{◌≡◌, option_map};
 ghost use Rattle.enc_base.specs.Numbers.{AreBytes};
-ghost use Rattle.enc_dispatch.specs.Index.{StandsForModule};
 ghost use Rattle.enc_il.specs.Seen.{instr_seen};
 ghost use Rattle.enc_opcodes.specs.Instruction.{instr_in};
-ghost use Rattle.enc_vm.specs.CallsSeen.{AreBodiesOf};
-ghost use Rattle.enc_frames.specs.FramesSeen.{shared_by};
+ghost use Rattle.enc_vm.specs.SharedSeen.{shared_in};
+ghost use Rattle.enc_vm.specs.World.{world_in};
 ghost use Rattle.enc_vm.specs.EffectsSeen.{Performs};
-ghost use Rattle.enc_frames.specs.Machine.{version_world};
 ghost use Rattle.enc_vm.specs.Placed.{IsFramePlaced};
 ghost use Rattle.enc_vm.specs.Step.{advance};
 
 use crate::effect::Effect;
+use crate::shared::Shared;
 use crate::thread::Thread;
-use crate::touched::Touched;
-use enc_dispatch::Dispatch;
+use crate::world::World;
 use enc_frames::Stop;
 use enc_il::instr_at;
-use enc_objects::{Objects, Trap};
+use enc_objects::Trap;
 use enc_opcodes::Instr;
 use enc_plain::ModuleView;
-use enc_versions::{Code, Versions};
-use std::alloc::Global;
+use enc_versions::Code;
 
 /// Each number in bytes is one of a byte.
 #[tactic(auto, using(crate::proofs::AtOffset::all_bytes))]
@@ -47,29 +44,17 @@ impl Thread {
     #[tactic(auto, using(crate::proofs::AtOffset::ends_at, crate::proofs::AtOffset::performs_at))]
     pub(crate) fn advance<V: ModuleView>(
         &mut self,
-        alloc: Global,
-        view: &V,
-        versions: &Versions,
-        dispatch: &Dispatch,
-        objects: &mut Objects,
-        touched: &mut Touched,
+        world: &World<'_, V>,
+        shared: &mut Shared,
     ) -> Result<Effect, Stop>
-        requires versions { AreBodiesOf (V.users view.now) (V.meaning view.now) versions.now.methods }
-        requires stands { StandsForModule dispatch.now (V.meaning view.now) }
-        requires placed { IsFramePlaced
-            (version_world (V.users view.now) (V.meaning view.now) versions.now.methods) self.old.top }
-        ensures { Performs result (shared_by objects.new touched.new) (shared_by objects.old touched.old) self.new
-            self.old (advance (version_world (V.users view.now) (V.meaning view.now) versions.now.methods)
-            (shared_by objects.old touched.old) self.old) }
+        requires placed { IsFramePlaced (world_in V.users V.meaning world.now) self.old.top }
+        ensures { Performs result (shared_in shared.new) (shared_in shared.old) self.new self.old
+            (advance (world_in V.users V.meaning world.now) (shared_in shared.old) self.old) }
     {
         let code = self.top.code().clone()?;
         match instruction_in(code.as_ref(), self.top.offset()) {
             None => Err(Stop::Trap(Trap::X1)),
-            Some((instr, next)) => {
-                self.perform(
-                    alloc, view, versions, dispatch, objects, touched, next, instr,
-                )
-            }
+            Some((instr, next)) => self.perform(world, shared, next, instr),
         }
     }
 }

@@ -1,34 +1,35 @@
 //! Calls of methods of the module (ECMA-335 III.3.19, III.4.2).
 ghost use Rattle.std.specs.Prelude.{◌≡◌, List, length, option_and_then, IfOk, IsTrue, ◌&&◌, if◌then◌else◌};
 ghost use Rattle.enc_base.specs.declared.token.Token.{Token as TheToken};
-ghost use Rattle.enc_dispatch.specs.Index.{StandsForModule};
 ghost use Rattle.enc_dispatch.specs.Target.{target_of, is_interface};
 ghost use Rattle.enc_dispatch.specs.Walks.{is_virtual};
 ghost use Rattle.enc_objects.specs.declared.trap.Trap.TheVariants.{X9, X10};
 ghost use Rattle.enc_plain.specs.Module.{has_row};
 ghost use Rattle.enc_base.specs.Tables.{method_def};
 ghost use Rattle.enc_frames.specs.ArgumentsSeen.{GivesItems, fitting};
-ghost use Rattle.enc_vm.specs.Calls.{object_of, ask_object, class_of_object, reached_on, chosen, call_with, declaring, touch_if, call_touches, named_virtually, call, call_virtual};
-ghost use Rattle.enc_vm.specs.CallsSeen.{AreBodiesOf, Makes, called_on};
+ghost use Rattle.enc_vm.specs.Calls.{object_of, ask_object, class_of_object, reached_on, chosen, declaring, touch_if, call_touches, named_virtually, call, call_virtual};
+ghost use Rattle.enc_vm.specs.CallMade.{called_by, call_made};
+ghost use Rattle.enc_vm.specs.CallsSeen.{Makes};
 ghost use Rattle.enc_frames.specs.FramesSeen.{shared_by};
-ghost use Rattle.enc_frames.specs.Machine.{version_world};
+ghost use Rattle.enc_vm.specs.SharedSeen.{shared_in};
+ghost use Rattle.enc_vm.specs.World.{world_in};
 ghost use Rattle.enc_frames.specs.Straight.{argument_kinds};
 ghost use Rattle.enc_vm.specs.TouchSeen.{constructed_in, first_on};
-ghost use Rattle.enc_frames.specs.Machine.{Shared};
+ghost use Rattle.enc_frames.specs.Machine.{Shared as TheShared};
 
 use crate::declaring::{
     FirstTouch, call_touches, declaring, first_touch, is_interface, is_virtual,
 };
+use crate::enter::CallSite;
 use crate::returns::FrameChange;
+use crate::shared::Shared;
 use crate::thread::Thread;
-use crate::touched::Touched;
+use crate::world::World;
 use enc_base::Token;
-use enc_dispatch::Dispatch;
 use enc_frames::{Stack, Stop, called_kinds, fitting, named_method, reference};
 use enc_machine_types::MethodShape;
 use enc_objects::{Objects, Shape, Trap, Value};
 use enc_plain::{ModuleView, is_row};
-use enc_versions::Versions;
 use std::alloc::Global;
 
 /// The object that is the first argument. X3 where there is none, X4 where it is no reference, X5 where it
@@ -70,22 +71,20 @@ fn class_in(objects: &Objects, id: u32) -> Option<Token>
 /// The method that a virtual call reaches on an object of a class, None where there is none (ECMA-335
 /// I.8.10.4).
 fn target_in<V: ModuleView>(
-    view: &V,
-    dispatch: &Dispatch,
+    world: &World<'_, V>,
     class: Option<Token>,
     method: Token,
 ) -> Option<Token>
-    requires row { IsTrue (has_row (V.meaning view.now) method) }
-    requires stands { StandsForModule dispatch.now (V.meaning view.now) }
-    ensures { result ≡ option_and_then (λ (c : TheToken). target_of (V.meaning view.now) c method) class }
+    requires row { IsTrue (has_row (V.meaning world.now.view) method) }
+    ensures { result ≡ option_and_then (λ (c : TheToken). target_of (V.meaning world.now.view) c method) class }
 {
     let Some(class) = class else {
         return None;
     };
-    if !is_row(view, class) {
+    if !is_row(world.view, class) {
         return None;
     }
-    dispatch.target(class, method)
+    world.dispatch.target(class, method)
 }
 
 /// Why a virtual call reaches no method: X10 of a method of an interface, and else X9.
@@ -104,44 +103,40 @@ fn unreached<V: ModuleView>(view: &V, method: Token) -> Trap
 /// The method that a virtual call reaches on an object (ECMA-335 III.4.2).
 #[tactic(auto, unfolding(crate::specs::Calls::reached_on))]
 fn reached_on<V: ModuleView>(
-    view: &V,
-    dispatch: &Dispatch,
+    world: &World<'_, V>,
     objects: &Objects,
     id: u32,
     method: Token,
 ) -> Result<Token, Trap>
-    requires row { IsTrue (has_row (V.meaning view.now) method) }
+    requires row { IsTrue (has_row (V.meaning world.now.view) method) }
     requires table { method.table ≡ method_def }
-    requires stands { StandsForModule dispatch.now (V.meaning view.now) }
-    ensures { result ≡ reached_on (V.meaning view.now) objects.now id method }
+    ensures { result ≡ reached_on (V.meaning world.now.view) objects.now id method }
 {
     let class = class_in(objects, id);
-    match target_in(view, dispatch, class, method) {
-        None => Err(unreached(view, method)),
+    match target_in(world, class, method) {
+        None => Err(unreached(world.view, method)),
         Some(target) => Ok(target),
     }
 }
 
 /// Which method is entered: the named one, or the one that the object has for it.
 fn chosen<V: ModuleView>(
-    view: &V,
-    dispatch: &Dispatch,
+    world: &World<'_, V>,
     objects: &Objects,
-    by_object: bool,
+    is_virtual: bool,
     args: &[Value],
     method: Token,
 ) -> Result<Token, Trap>
-    requires row { IsTrue (has_row (V.meaning view.now) method) }
+    requires row { IsTrue (has_row (V.meaning world.now.view) method) }
     requires table { method.table ≡ method_def }
-    requires stands { StandsForModule dispatch.now (V.meaning view.now) }
-    ensures { result ≡ chosen by_object (V.meaning view.now) objects.now args.now method }
+    ensures { result ≡ chosen is_virtual (V.meaning world.now.view) objects.now args.now method }
 {
-    if !by_object {
+    if !is_virtual {
         return Ok(method);
     }
     match object_of(args) {
         Err(trap) => Err(trap),
-        Ok(id) => reached_on(view, dispatch, objects, id, method),
+        Ok(id) => reached_on(world, objects, id, method),
     }
 }
 
@@ -168,45 +163,50 @@ fn called_args(alloc: Global, stack: &Stack, shape: &MethodShape<'_>) -> Result<
 
 /// How a call goes: whether the object may not be null, and whether the object tells the method.
 #[derive(Clone, Copy, Debug, PartialEq, Eq)]
-pub(crate) struct Manner {
-    pub asks: bool,
-    pub by_object: bool,
+pub(crate) struct CallKind {
+    pub null_check: bool,
+    pub is_virtual: bool,
+}
+
+/// A call of a method of the module: how it goes, the method, how that is called, and where the next instruction
+/// begins.
+#[derive(Drop)]
+pub(crate) struct Call<'a> {
+    pub kind: CallKind,
+    pub method: Token,
+    pub shape: MethodShape<'a>,
+    pub next: u32,
 }
 
 impl Thread {
-    /// A call with these arguments, which are so many values on the stack.
+    /// A call with these arguments, which are as many values on the stack.
     fn call_on<V: ModuleView>(
         &mut self,
-        alloc: Global,
-        view: &V,
-        versions: &Versions,
-        dispatch: &Dispatch,
+        world: &World<'_, V>,
         objects: &Objects,
-        manner: Manner,
-        next: u32,
-        n: usize,
-        method: Token,
+        call: &Call<'_>,
         args: Vec<Value>,
     ) -> Result<FrameChange, Stop>
-        requires row { IsTrue (has_row (V.meaning view.now) method) }
-        requires table { method.table ≡ method_def }
-        requires versions { AreBodiesOf (V.users view.now) (V.meaning view.now) versions.now.methods }
-        requires stands { StandsForModule dispatch.now (V.meaning view.now) }
-        ensures { (touched : List TheToken) → Makes result (shared_by objects.now touched)
-            (shared_by objects.now touched) self.new self.old (called_on (version_world (V.users view.now)
-            (V.meaning view.now) versions.now.methods) (V.meaning view.now) manner.asks manner.by_object next n method
-            args.items self.old (shared_by objects.now touched)) }
+        requires row { IsTrue (has_row (V.meaning world.now.view) call.now.method) }
+        requires table { call.now.method.table ≡ method_def }
+        ensures { (touched : List TheToken) →
+            Makes result (shared_by objects.now touched) (shared_by objects.now touched) self.new self.old
+            (called_by (world_in V.users V.meaning world.now) (V.meaning world.now.view)
+            call.now args.items self.old (shared_by objects.now touched)) }
     {
-        let _ = ask_object(manner.asks, args.as_slice())?;
+        let _ = ask_object(call.kind.null_check, args.as_slice())?;
         let target = chosen(
-            view,
-            dispatch,
+            world,
             objects,
-            manner.by_object,
+            call.kind.is_virtual,
             args.as_slice(),
-            method,
+            call.method,
         )?;
-        match self.enter(alloc, view, versions, target, args, next, n) {
+        let site = CallSite {
+            next: call.next,
+            taken: called_count(&call.shape),
+        };
+        match self.enter(world, target, args, site) {
             Err(stop) => Err(stop),
             Ok(()) => Ok(FrameChange::Entered(target)),
         }
@@ -214,33 +214,22 @@ impl Thread {
 
     /// A call of a method with what stands on the stack (ECMA-335 III.3.19).
     #[tactic(auto, using(crate::proofs::Called::call_with_is))]
-    pub(crate) fn call_with<V: ModuleView>(
+    fn call_with<V: ModuleView>(
         &mut self,
-        alloc: Global,
-        view: &V,
-        versions: &Versions,
-        dispatch: &Dispatch,
+        world: &World<'_, V>,
         objects: &Objects,
-        manner: Manner,
-        next: u32,
-        method: Token,
-        shape: &MethodShape<'_>,
+        call: &Call<'_>,
     ) -> Result<FrameChange, Stop>
-        requires row { IsTrue (has_row (V.meaning view.now) method) }
-        requires table { method.table ≡ method_def }
-        requires versions { AreBodiesOf (V.users view.now) (V.meaning view.now) versions.now.methods }
-        requires stands { StandsForModule dispatch.now (V.meaning view.now) }
-        ensures { (touched : List TheToken) → Makes result (shared_by objects.now touched)
-            (shared_by objects.now touched) self.new self.old (call_with (version_world (V.users view.now)
-            (V.meaning view.now) versions.now.methods) manner.asks manner.by_object next method shape.now self.old
+        requires row { IsTrue (has_row (V.meaning world.now.view) call.now.method) }
+        requires table { call.now.method.table ≡ method_def }
+        ensures { (touched : List TheToken) →
+            Makes result (shared_by objects.now touched) (shared_by objects.now touched) self.new self.old
+            (call_made (world_in V.users V.meaning world.now) call.now self.old
             (shared_by objects.now touched)) }
     {
-        let n = called_count(shape);
-        match called_args(alloc, self.top.stack(), shape) {
+        match called_args(world.alloc, self.top.stack(), &call.shape) {
             Err(stop) => Err(stop),
-            Ok(args) => self.call_on(
-                alloc, view, versions, dispatch, objects, manner, next, n, method, args,
-            ),
+            Ok(args) => self.call_on(world, objects, call, args),
         }
     }
 }
@@ -250,17 +239,17 @@ impl Thread {
     /// (ECMA-335 II.10.5.3).
     pub(crate) fn enter_constructor<V: ModuleView>(
         &mut self,
-        alloc: Global,
-        view: &V,
-        versions: &Versions,
+        world: &World<'_, V>,
         constructor: Token,
     ) -> Result<FrameChange, Stop>
-        requires versions { AreBodiesOf (V.users view.now) (V.meaning view.now) versions.now.methods }
-        ensures { (s : Shared) → Makes result s s self.new self.old (constructed_in
-            (version_world (V.users view.now) (V.meaning view.now) versions.now.methods) constructor self.old s) }
+        ensures { (s : TheShared) → Makes result s s self.new self.old
+            (constructed_in (world_in V.users V.meaning world.now) constructor self.old s) }
     {
-        let next = self.top.offset();
-        match self.enter(alloc, view, versions, constructor, Vec::new(alloc), next, 0) {
+        let site = CallSite {
+            next: self.top.offset(),
+            taken: 0,
+        };
+        match self.enter(world, constructor, Vec::new(world.alloc), site) {
             Err(stop) => Err(stop),
             Ok(()) => Ok(FrameChange::Entered(constructor)),
         }
@@ -272,78 +261,50 @@ impl Thread {
     /// one, and else the method.
     fn call_first<V: ModuleView>(
         &mut self,
-        alloc: Global,
-        view: &V,
-        versions: &Versions,
-        dispatch: &Dispatch,
-        objects: &Objects,
-        touched: &mut Touched,
+        world: &World<'_, V>,
+        shared: &mut Shared,
         first: FirstTouch,
-        manner: Manner,
-        next: u32,
-        method: Token,
-        shape: &MethodShape<'_>,
+        call: &Call<'_>,
     ) -> Result<FrameChange, Stop>
-        requires row { IsTrue (has_row (V.meaning view.now) method) }
-        requires table { method.table ≡ method_def }
-        requires versions { AreBodiesOf (V.users view.now) (V.meaning view.now) versions.now.methods }
-        requires stands { StandsForModule dispatch.now (V.meaning view.now) }
-        ensures { Makes result (shared_by objects.now touched.new) (shared_by objects.now touched.old) self.new self.old
-            (first_on (version_world (V.users view.now) (V.meaning view.now) versions.now.methods) first
-            (call_with (version_world (V.users view.now) (V.meaning view.now) versions.now.methods) manner.asks
-            manner.by_object next method shape.now self.old) self.old objects.now) }
+        requires row { IsTrue (has_row (V.meaning world.now.view) call.now.method) }
+        requires table { call.now.method.table ≡ method_def }
+        ensures { Makes result (shared_in shared.new) (shared_in shared.old) self.new self.old
+            (first_on (world_in V.users V.meaning world.now) first
+            (call_made (world_in V.users V.meaning world.now) call.now self.old) self.old shared.old.objects) }
     {
         let Some(constructor) = first.constructor else {
-            let change = self.call_with(
-                alloc, view, versions, dispatch, objects, manner, next, method, shape,
-            )?;
-            *touched = first.touched;
+            let change = self.call_with(world, &shared.objects, call)?;
+            shared.touched = first.touched;
             return Ok(change);
         };
-        let change = self.enter_constructor(alloc, view, versions, constructor)?;
-        *touched = first.touched;
+        let change = self.enter_constructor(world, constructor)?;
+        shared.touched = first.touched;
         Ok(change)
     }
 
     /// A call behind the touch of its method's type, where it touches that (ECMA-335 II.10.5.3).
     fn touch_and_call<V: ModuleView>(
         &mut self,
-        alloc: Global,
-        view: &V,
-        versions: &Versions,
-        dispatch: &Dispatch,
-        objects: &Objects,
-        touched: &mut Touched,
-        manner: Manner,
-        next: u32,
-        method: Token,
-        shape: &MethodShape<'_>,
+        world: &World<'_, V>,
+        shared: &mut Shared,
+        call: &Call<'_>,
     ) -> Result<FrameChange, Stop>
-        requires row { IsTrue (has_row (V.meaning view.now) method) }
-        requires table { method.table ≡ method_def }
-        requires versions { AreBodiesOf (V.users view.now) (V.meaning view.now) versions.now.methods }
-        requires stands { StandsForModule dispatch.now (V.meaning view.now) }
-        ensures { Makes result (shared_by objects.now touched.new) (shared_by objects.now touched.old) self.new self.old
-            (touch_if (call_touches (V.meaning view.now) method) (version_world (V.users view.now)
-            (V.meaning view.now) versions.now.methods) (shared_by objects.now touched.old) self.old
-            (declaring (V.meaning view.now) method) (call_with (version_world (V.users view.now)
-            (V.meaning view.now) versions.now.methods) manner.asks manner.by_object next method shape.now self.old)) }
+        requires row { IsTrue (has_row (V.meaning world.now.view) call.now.method) }
+        requires table { call.now.method.table ≡ method_def }
+        ensures { Makes result (shared_in shared.new) (shared_in shared.old) self.new self.old
+            (touch_if (call_touches (V.meaning world.now.view) call.now.method)
+            (world_in V.users V.meaning world.now) (shared_in shared.old) self.old
+            (declaring (V.meaning world.now.view) call.now.method)
+            (call_made (world_in V.users V.meaning world.now) call.now self.old)) }
     {
-        if !call_touches(view, method) {
-            return self.call_with(
-                alloc, view, versions, dispatch, objects, manner, next, method, shape,
-            );
+        if !call_touches(world.view, call.method) {
+            return self.call_with(world, &shared.objects, call);
         }
-        let owner = declaring(view, method);
-        match first_touch(alloc, view, touched, owner) {
+        let owner = declaring(world.view, call.method);
+        match first_touch(world.alloc, world.view, &shared.touched, owner) {
             Err(_) => Err(Stop::Memory),
-            Ok(None) => self.call_with(
-                alloc, view, versions, dispatch, objects, manner, next, method, shape,
-            ),
-            Ok(Some(first)) => self.call_first(
-                alloc, view, versions, dispatch, objects, touched, first, manner, next, method,
-                shape,
-            ),
+            Ok(None) => self.call_with(world, &shared.objects, call),
+            Ok(Some(first)) => self.call_first(world, shared, first, call),
         }
     }
 }
@@ -367,7 +328,7 @@ fn named_virtually<V: ModuleView>(view: &V, token: Token) -> Result<MethodShape<
 }
 
 /// Whether the object tells which method a virtual call reaches: where the method has one, and is virtual.
-fn is_by_object<V: ModuleView>(view: &V, shape: &MethodShape<'_>, method: Token) -> bool
+fn is_virtual_on<V: ModuleView>(view: &V, shape: &MethodShape<'_>, method: Token) -> bool
     requires { method.table ≡ method_def }
     ensures { result ≡ (shape.now.this && is_virtual (V.meaning view.now) method) }
 {
@@ -379,58 +340,51 @@ impl Thread {
     #[tactic(auto, using(crate::proofs::TouchedOn::call_is))]
     pub(crate) fn call<V: ModuleView>(
         &mut self,
-        alloc: Global,
-        view: &V,
-        versions: &Versions,
-        dispatch: &Dispatch,
-        objects: &Objects,
-        touched: &mut Touched,
+        world: &World<'_, V>,
+        shared: &mut Shared,
         next: u32,
         method: Token,
     ) -> Result<FrameChange, Stop>
-        requires versions { AreBodiesOf (V.users view.now) (V.meaning view.now) versions.now.methods }
-        requires stands { StandsForModule dispatch.now (V.meaning view.now) }
-        ensures { Makes result (shared_by objects.now touched.new) (shared_by objects.now touched.old) self.new self.old
-            (call (version_world (V.users view.now) (V.meaning view.now) versions.now.methods) next method
-            (shared_by objects.now touched.old) self.old) }
+        ensures { Makes result (shared_in shared.new) (shared_in shared.old) self.new self.old
+            (call (world_in V.users V.meaning world.now) next method (shared_in shared.old) self.old) }
     {
-        let shape = named_method(view, method)?;
-        let manner = Manner {
-            asks: false,
-            by_object: false,
+        let shape = named_method(world.view, method)?;
+        let kind = CallKind {
+            null_check: false,
+            is_virtual: false,
         };
-        self.touch_and_call(
-            alloc, view, versions, dispatch, objects, touched, manner, next, method, &shape,
-        )
+        let call = Call {
+            kind,
+            method,
+            shape,
+            next,
+        };
+        self.touch_and_call(world, shared, &call)
     }
 
     /// `callvirt` of a method of the module (ECMA-335 III.4.2).
     #[tactic(auto, using(crate::proofs::TouchedOn::call_virtual_is))]
     pub(crate) fn call_virtual<V: ModuleView>(
         &mut self,
-        alloc: Global,
-        view: &V,
-        versions: &Versions,
-        dispatch: &Dispatch,
-        objects: &Objects,
-        touched: &mut Touched,
+        world: &World<'_, V>,
+        shared: &mut Shared,
         next: u32,
         method: Token,
     ) -> Result<FrameChange, Stop>
-        requires versions { AreBodiesOf (V.users view.now) (V.meaning view.now) versions.now.methods }
-        requires stands { StandsForModule dispatch.now (V.meaning view.now) }
-        ensures { Makes result (shared_by objects.now touched.new) (shared_by objects.now touched.old) self.new self.old
-            (call_virtual (version_world (V.users view.now) (V.meaning view.now) versions.now.methods) next method
-            (shared_by objects.now touched.old) self.old) }
+        ensures { Makes result (shared_in shared.new) (shared_in shared.old) self.new self.old
+            (call_virtual (world_in V.users V.meaning world.now) next method (shared_in shared.old) self.old) }
     {
-        let shape = named_virtually(view, method)?;
-        let by_object = is_by_object(view, &shape, method);
-        let manner = Manner {
-            asks: shape.has_this(),
-            by_object,
+        let shape = named_virtually(world.view, method)?;
+        let kind = CallKind {
+            null_check: shape.has_this(),
+            is_virtual: is_virtual_on(world.view, &shape, method),
         };
-        self.touch_and_call(
-            alloc, view, versions, dispatch, objects, touched, manner, next, method, &shape,
-        )
+        let call = Call {
+            kind,
+            method,
+            shape,
+            next,
+        };
+        self.touch_and_call(world, shared, &call)
     }
 }

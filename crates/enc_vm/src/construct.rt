@@ -6,25 +6,26 @@ ghost use Rattle.enc_plain.specs.Module.{has_row, cells_of};
 ghost use Rattle.enc_plain.specs.ValueType.{is_value_type};
 ghost use Rattle.enc_base.specs.Tables.{method_def};
 ghost use Rattle.enc_frames.specs.ArgumentsSeen.{GivesItems};
-ghost use Rattle.enc_vm.specs.Calls.{construct, declaring, new_object, touch};
-ghost use Rattle.enc_vm.specs.CallsSeen.{AreBodiesOf, Makes};
+ghost use Rattle.enc_vm.specs.Calls.{declaring, new_object, touch};
+ghost use Rattle.enc_vm.specs.CallsSeen.{Makes};
 ghost use Rattle.enc_frames.specs.FramesSeen.{shared_by};
-ghost use Rattle.enc_vm.specs.ConstructSeen.{made_ready, let_go, held_begun, object_entered, with_null, frame_made, constructed_on};
+ghost use Rattle.enc_vm.specs.ConstructSeen.{construct_made, made_ready, let_go, held_begun, object_entered, with_null, frame_made, constructed_on};
 ghost use Rattle.enc_frames.specs.Does.{Does, GivesOrStops};
-ghost use Rattle.enc_frames.specs.Machine.{version_world};
+ghost use Rattle.enc_vm.specs.SharedSeen.{shared_in};
 ghost use Rattle.enc_vm.specs.TouchSeen.{first_on};
+ghost use Rattle.enc_vm.specs.World.{world_in};
 
 use crate::declaring::{FirstTouch, declaring, first_touch};
 use crate::enter::{MOST_FRAMES, code_now};
 use crate::returns::FrameChange;
+use crate::shared::Shared;
 use crate::thread::Thread;
-use crate::touched::Touched;
+use crate::world::World;
 use enc_base::Token;
 use enc_frames::{Frame, Stack, Stop, fitting, named_method, new_frame, taken_kinds};
 use enc_machine_types::MethodShape;
 use enc_objects::{Objects, Trap, Value};
 use enc_plain::{ModuleView, Viewed, is_value_type};
-use enc_versions::Versions;
 use std::alloc::{AllocError, Global};
 
 impl Thread {
@@ -67,6 +68,15 @@ impl Thread {
     }
 }
 
+/// A new object: its class, its constructor, and where the caller goes on, with how many values fewer on its stack.
+#[derive(Clone, Copy, Debug, PartialEq, Eq)]
+struct NewObject {
+    class: Token,
+    constructor: Token,
+    next: u32,
+    taken: u32,
+}
+
 impl Thread {
     /// An object of a class is made, and the frame of its constructor is entered, whose first argument it
     /// becomes; it stands on the caller's stack in the place of so many values. X12 where there can't be an
@@ -76,31 +86,27 @@ impl Thread {
         &mut self,
         objects: &mut Objects,
         frame: Frame,
-        class: Token,
-        next: u32,
-        n: u32,
+        new: NewObject,
     ) -> Result<(), Stop>
-        requires there { n ≤ length self.old.top.stack }
+        requires there { new.taken ≤ length self.old.top.stack }
         requires room { length self.old.below < 1023 }
-        ensures { Does result (objects.new, self.new) (
-          objects.old,
-          self.old,
-        ) (object_entered class next n frame objects.old self.old) }
+        ensures { Does result (objects.new, self.new) (objects.old, self.old)
+            (object_entered new.class new.next new.taken frame objects.old self.old) }
     {
         if objects.is_full(0) {
             return Err(Stop::Trap(Trap::X12));
         }
-        if !self.top.can_take(n as usize) {
+        if !self.top.can_take(new.taken as usize) {
             return Err(Stop::Trap(Trap::X13));
         }
         self.make_ready(frame)?;
-        match objects.new_object(class) {
+        match objects.new_object(new.class) {
             Err(fault) => {
                 self.let_go();
                 Err(Stop::from(fault))
             }
             Ok(id) => {
-                self.begin_held(next, n as usize + 1, Value::Obj(id));
+                self.begin_held(new.next, new.taken as usize + 1, Value::Obj(id));
                 Ok(())
             }
         }
@@ -136,21 +142,26 @@ fn constructor_args(
 
 /// A frame at a method's first instruction, with these arguments. X10 where the interpreter doesn't run it.
 fn frame_now<V: ModuleView>(
-    alloc: Global,
-    view: &V,
-    versions: &Versions,
+    world: &World<'_, V>,
     method: Token,
     args: Vec<Value>,
 ) -> Result<Frame, Stop>
-    requires versions { AreBodiesOf (V.users view.now) (V.meaning view.now) versions.now.methods }
-    ensures { GivesOrStops result (frame_made (version_world (V.users view.now)
-        (V.meaning view.now) versions.now.methods) (V.meaning view.now) method args.items) }
+    ensures { GivesOrStops result
+        (frame_made (world_in V.users V.meaning world.now) (V.meaning world.now.view) method args.items) }
 {
-    let Some(code) = code_now(view, versions, method) else {
+    let Some(code) = code_now(world.view, world.versions, method) else {
         return Err(Stop::Trap(Trap::X10));
     };
-    let frame = new_frame(alloc, view, method, code.clone()?, args)?;
+    let frame = new_frame(world.alloc, world.view, method, code.clone()?, args)?;
     Ok(frame)
+}
+
+/// A constructor that is called on a new object: how it is called, and where the next instruction begins.
+#[derive(Drop)]
+struct Construction<'a> {
+    method: Token,
+    shape: MethodShape<'a>,
+    next: u32,
 }
 
 impl Thread {
@@ -158,30 +169,25 @@ impl Thread {
     /// the interpreter doesn't run the constructor, X11 where there would be more than 1,024 frames.
     fn construct_on<V: ModuleView>(
         &mut self,
-        alloc: Global,
-        view: &V,
-        versions: &Versions,
+        world: &World<'_, V>,
         objects: &mut Objects,
-        next: u32,
-        n: u32,
-        class: Token,
-        method: Token,
+        new: NewObject,
         args: Vec<Value>,
     ) -> Result<FrameChange, Stop>
-        requires there { n ≤ length self.old.top.stack }
-        requires versions { AreBodiesOf (V.users view.now) (V.meaning view.now) versions.now.methods }
-        ensures { (touched : List TheToken) → Makes result (shared_by objects.new touched)
-            (shared_by objects.old touched) self.new self.old (constructed_on (version_world (V.users view.now)
-            (V.meaning view.now) versions.now.methods) (V.meaning view.now) next n class method args.items self.old
+        requires there { new.taken ≤ length self.old.top.stack }
+        ensures { (touched : List TheToken) →
+            Makes result (shared_by objects.new touched) (shared_by objects.old touched) self.new self.old
+            (constructed_on (world_in V.users V.meaning world.now) (V.meaning world.now.view)
+            new.next new.taken new.class new.constructor args.items self.old
             (shared_by objects.old touched)) }
     {
-        let frame = frame_now(alloc, view, versions, method, args)?;
+        let frame = frame_now(world, new.constructor, args)?;
         if self.below.len() >= MOST_FRAMES - 1 {
             return Err(Stop::Trap(Trap::X11));
         }
-        match self.begin_object(objects, frame, class, next, n) {
+        match self.begin_object(objects, frame, new) {
             Err(stop) => Err(stop),
-            Ok(()) => Ok(FrameChange::Entered(method)),
+            Ok(()) => Ok(FrameChange::Entered(new.constructor)),
         }
     }
 
@@ -189,28 +195,26 @@ impl Thread {
     #[tactic(auto, using(crate::proofs::Constructed::construct_is))]
     fn construct<V: ModuleView>(
         &mut self,
-        alloc: Global,
-        view: &V,
-        versions: &Versions,
+        world: &World<'_, V>,
         objects: &mut Objects,
-        next: u32,
-        method: Token,
-        shape: &MethodShape<'_>,
+        construction: &Construction<'_>,
     ) -> Result<FrameChange, Stop>
-        requires row { IsTrue (has_row (V.meaning view.now) method) }
-        requires table { method.table ≡ method_def }
-        requires versions { AreBodiesOf (V.users view.now) (V.meaning view.now) versions.now.methods }
-        ensures { (touched : List TheToken) → Makes result (shared_by objects.new touched)
-            (shared_by objects.old touched) self.new self.old (construct (version_world (V.users view.now)
-            (V.meaning view.now) versions.now.methods) next method shape.now self.old (shared_by objects.old touched)) }
+        requires row { IsTrue (has_row (V.meaning world.now.view) construction.now.method) }
+        requires table { construction.now.method.table ≡ method_def }
+        ensures { (touched : List TheToken) →
+            Makes result (shared_by objects.new touched) (shared_by objects.old touched) self.new self.old
+            (construct_made (world_in V.users V.meaning world.now) construction.now self.old
+            (shared_by objects.old touched)) }
     {
-        let n = shape.takes().len();
-        let class = declaring(view, method);
-        match constructor_args(alloc, self.top.stack(), shape) {
+        let new = NewObject {
+            class: declaring(world.view, construction.method),
+            constructor: construction.method,
+            next: construction.next,
+            taken: construction.shape.takes().len(),
+        };
+        match constructor_args(world.alloc, self.top.stack(), &construction.shape) {
             Err(stop) => Err(stop),
-            Ok(args) => self.construct_on(
-                alloc, view, versions, objects, next, n, class, method, args,
-            ),
+            Ok(args) => self.construct_on(world, objects, new, args),
         }
     }
 }
@@ -220,62 +224,47 @@ impl Thread {
     /// and else the object's.
     fn construct_first<V: ModuleView>(
         &mut self,
-        alloc: Global,
-        view: &V,
-        versions: &Versions,
-        objects: &mut Objects,
-        touched: &mut Touched,
+        world: &World<'_, V>,
+        shared: &mut Shared,
         first: FirstTouch,
-        next: u32,
-        method: Token,
-        shape: &MethodShape<'_>,
+        construction: &Construction<'_>,
     ) -> Result<FrameChange, Stop>
-        requires row { IsTrue (has_row (V.meaning view.now) method) }
-        requires table { method.table ≡ method_def }
-        requires versions { AreBodiesOf (V.users view.now) (V.meaning view.now) versions.now.methods }
-        ensures { Makes result (shared_by objects.new touched.new) (shared_by objects.old touched.old) self.new self.old
-            (first_on (version_world (V.users view.now) (V.meaning view.now) versions.now.methods) first
-            (construct (version_world (V.users view.now) (V.meaning view.now) versions.now.methods) next method
-            shape.now self.old) self.old objects.old) }
+        requires row { IsTrue (has_row (V.meaning world.now.view) construction.now.method) }
+        requires table { construction.now.method.table ≡ method_def }
+        ensures { Makes result (shared_in shared.new) (shared_in shared.old) self.new self.old
+            (first_on (world_in V.users V.meaning world.now) first
+            (construct_made (world_in V.users V.meaning world.now) construction.now self.old) self.old
+            shared.old.objects) }
     {
         let Some(constructor) = first.constructor else {
-            let change = self.construct(alloc, view, versions, objects, next, method, shape)?;
-            *touched = first.touched;
+            let change = self.construct(world, &mut shared.objects, construction)?;
+            shared.touched = first.touched;
             return Ok(change);
         };
-        let change = self.enter_constructor(alloc, view, versions, constructor)?;
-        *touched = first.touched;
+        let change = self.enter_constructor(world, constructor)?;
+        shared.touched = first.touched;
         Ok(change)
     }
 
     /// A new object behind the touch of its class (ECMA-335 II.10.5.3).
     fn touch_and_construct<V: ModuleView>(
         &mut self,
-        alloc: Global,
-        view: &V,
-        versions: &Versions,
-        objects: &mut Objects,
-        touched: &mut Touched,
-        next: u32,
-        method: Token,
-        shape: &MethodShape<'_>,
+        world: &World<'_, V>,
+        shared: &mut Shared,
+        construction: &Construction<'_>,
     ) -> Result<FrameChange, Stop>
-        requires row { IsTrue (has_row (V.meaning view.now) method) }
-        requires table { method.table ≡ method_def }
-        requires versions { AreBodiesOf (V.users view.now) (V.meaning view.now) versions.now.methods }
-        ensures { Makes result (shared_by objects.new touched.new) (shared_by objects.old touched.old) self.new self.old
-            (touch (version_world (V.users view.now) (V.meaning view.now) versions.now.methods)
-            (shared_by objects.old touched.old) self.old (declaring (V.meaning view.now) method)
-            (construct (version_world (V.users view.now) (V.meaning view.now) versions.now.methods) next method
-            shape.now self.old)) }
+        requires row { IsTrue (has_row (V.meaning world.now.view) construction.now.method) }
+        requires table { construction.now.method.table ≡ method_def }
+        ensures { Makes result (shared_in shared.new) (shared_in shared.old) self.new self.old
+            (touch (world_in V.users V.meaning world.now) (shared_in shared.old) self.old
+            (declaring (V.meaning world.now.view) construction.now.method)
+            (construct_made (world_in V.users V.meaning world.now) construction.now self.old)) }
     {
-        let owner = declaring(view, method);
-        match first_touch(alloc, view, touched, owner) {
+        let owner = declaring(world.view, construction.method);
+        match first_touch(world.alloc, world.view, &shared.touched, owner) {
             Err(_) => Err(Stop::Memory),
-            Ok(None) => self.construct(alloc, view, versions, objects, next, method, shape),
-            Ok(Some(first)) => self.construct_first(
-                alloc, view, versions, objects, touched, first, next, method, shape,
-            ),
+            Ok(None) => self.construct(world, &mut shared.objects, construction),
+            Ok(Some(first)) => self.construct_first(world, shared, first, construction),
         }
     }
 }
@@ -297,25 +286,23 @@ impl Thread {
     #[tactic(auto, using(crate::proofs::Constructed::new_object_is))]
     pub(crate) fn new_object<V: ModuleView>(
         &mut self,
-        alloc: Global,
-        view: &V,
-        versions: &Versions,
-        objects: &mut Objects,
-        touched: &mut Touched,
+        world: &World<'_, V>,
+        shared: &mut Shared,
         next: u32,
         method: Token,
     ) -> Result<FrameChange, Stop>
-        requires versions { AreBodiesOf (V.users view.now) (V.meaning view.now) versions.now.methods }
-        ensures { Makes result (shared_by objects.new touched.new) (shared_by objects.old touched.old) self.new self.old
-            (new_object (version_world (V.users view.now) (V.meaning view.now) versions.now.methods) next method
-            (shared_by objects.old touched.old) self.old) }
+        ensures { Makes result (shared_in shared.new) (shared_in shared.old) self.new self.old
+            (new_object (world_in V.users V.meaning world.now) next method (shared_in shared.old) self.old) }
     {
-        let shape = named_method(view, method)?;
-        if !is_for_object(view, method, &shape) {
+        let shape = named_method(world.view, method)?;
+        if !is_for_object(world.view, method, &shape) {
             return Err(Stop::Trap(Trap::X2));
         }
-        self.touch_and_construct(
-            alloc, view, versions, objects, touched, next, method, &shape,
-        )
+        let construction = Construction {
+            method,
+            shape,
+            next,
+        };
+        self.touch_and_construct(world, shared, &construction)
     }
 }

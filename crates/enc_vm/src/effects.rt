@@ -1,7 +1,6 @@
 //! What instructions make of a task, by what they change.
 ghost use Rattle.std.specs.Prelude.{ℕ, List, Option};
 ghost use Rattle.enc_base.specs.declared.token.Token.{Token as TheToken};
-ghost use Rattle.enc_dispatch.specs.Index.{StandsForModule};
 ghost use Rattle.enc_versions.specs.Version.{Version};
 ghost use Rattle.enc_vm.specs.Calls.{return_from};
 ghost use Rattle.enc_frames.specs.FramesSeen.{shared_by};
@@ -15,7 +14,7 @@ ghost use Rattle.enc_frames.specs.Straight.{on_upper_two, on_top};
 use crate::effect::Effect;
 use crate::returns::FrameChange;
 use crate::thread::Thread;
-use enc_dispatch::Dispatch;
+use crate::world::World;
 use enc_frames::{FrameAct, ObjectAct, Stop, act_on_objects};
 use enc_objects::Objects;
 use enc_opcodes::Op;
@@ -44,19 +43,25 @@ impl Thread {
     /// What an instruction does to objects and its frame.
     pub(crate) fn act_on_objects<V: ModuleView>(
         &mut self,
-        view: &V,
-        dispatch: &Dispatch,
+        world: &World<'_, V>,
         objects: &mut Objects,
         next: u32,
         act: ObjectAct,
     ) -> Result<Effect, Stop>
-        requires stands { StandsForModule dispatch.now (V.meaning view.now) }
-        ensures { (users : ℕ → Option (List ℕ)) (methods : List (Option Version)) (touched : List TheToken)
-            → Performs result (shared_by objects.new touched) (shared_by objects.old touched) self.new self.old
+        ensures { (users : ℕ → Option (List ℕ)) (methods : List (Option Version)) (touched : List TheToken) → Performs
+            result (shared_by objects.new touched) (shared_by objects.old touched) self.new self.old
             (stored (shared_by objects.old touched) self.old
-            (object_act (version_world users (V.meaning view.now) methods) next act objects.old self.old.top)) }
+            (object_act (version_world users (V.meaning world.now.view) methods) next act objects.old
+            self.old.top)) }
     {
-        match act_on_objects(view, dispatch, objects, &mut self.top, next, act) {
+        match act_on_objects(
+            world.view,
+            world.dispatch,
+            objects,
+            &mut self.top,
+            next,
+            act,
+        ) {
             Err(stop) => Err(stop),
             Ok(()) => Ok(Effect::Frames(FrameChange::Stays)),
         }

@@ -6,8 +6,10 @@ ghost use Rattle.enc_vm.specs.CallsSeen.{AreBodiesOf};
 ghost use Rattle.enc_frames.specs.Does.{Does};
 ghost use Rattle.enc_frames.specs.Machine.{version_world};
 ghost use Rattle.enc_frames.specs.Straight.{moved_on};
+ghost use Rattle.enc_vm.specs.World.{world_in};
 
 use crate::thread::Thread;
+use crate::world::World;
 use enc_base::Token;
 use enc_base::tables::METHOD_DEF;
 use enc_frames::{Stop, new_frame};
@@ -15,7 +17,6 @@ use enc_machine_types::{method_shape, runs_body};
 use enc_objects::{Trap, Value};
 use enc_plain::{ModuleView, is_row};
 use enc_versions::{Code, Versions};
-use std::alloc::Global;
 use std::rc::Rc;
 
 /// As many frames as a task can have.
@@ -51,34 +52,36 @@ pub(crate) fn code_now<'a, V: ModuleView>(
     Some(code)
 }
 
+/// Where a frame calls: the offset at which it goes on later, and how many values go from its stack.
+#[derive(Clone, Copy, Debug, PartialEq, Eq)]
+pub(crate) struct CallSite {
+    pub next: u32,
+    pub taken: usize,
+}
+
 impl Thread {
-    /// A method is entered over the innermost frame, which goes on later at an offset with so many values
-    /// fewer on its stack. X10 where the interpreter doesn't run the method, X11 where there would be more
-    /// than 1,024 frames (ECMA-335 III.3.19).
+    /// A method is entered over the innermost frame, which goes on later as the call site says. X10 where the
+    /// interpreter doesn't run the method, X11 where there would be more than 1,024 frames (ECMA-335 III.3.19).
     #[tactic(auto, using(crate::proofs::Entered::frame_is), unfolding(crate::specs::Calls::enter))]
     pub(crate) fn enter<V: ModuleView>(
         &mut self,
-        alloc: Global,
-        view: &V,
-        versions: &Versions,
+        world: &World<'_, V>,
         method: Token,
         args: Vec<Value>,
-        next: u32,
-        n: usize,
+        site: CallSite,
     ) -> Result<(), Stop>
-        requires versions { AreBodiesOf (V.users view.now) (V.meaning view.now) versions.now.methods }
-        ensures { Does result self.new self.old (enter (version_world (V.users view.now)
-            (V.meaning view.now) versions.now.methods) self.old
-            (moved_on next (drop n self.old.top.stack) self.old.top) method args.items) }
+        ensures { Does result self.new self.old (enter (world_in V.users V.meaning world.now) self.old
+            (moved_on site.next (drop site.taken self.old.top.stack) self.old.top) method args.items) }
     {
-        let Some(code) = code_now(view, versions, method) else {
+        let Some(code) = code_now(world.view, world.versions, method) else {
             return Err(Stop::Trap(Trap::X10));
         };
         if self.below.len() >= MOST_FRAMES - 1 {
             return Err(Stop::Trap(Trap::X11));
         }
-        let frame = new_frame(alloc, view, method, code.clone()?, args)?;
-        self.below.enter_call(&mut self.top, frame, next, n)?;
+        let frame = new_frame(world.alloc, world.view, method, code.clone()?, args)?;
+        self.below
+            .enter_call(&mut self.top, frame, site.next, site.taken)?;
         self.flight = None;
         Ok(())
     }

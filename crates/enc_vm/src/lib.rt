@@ -19,12 +19,14 @@ mod perform;
 mod returns;
 mod room;
 mod seen;
+mod shared;
 mod spawn;
 mod statics;
 mod task;
 mod thread;
 mod throwing;
 mod touched;
+mod world;
 
 pub use enc_frames::FrameRef;
 pub use ends::{SpawnEnd, StepEnd, TaskState};

@@ -87,7 +87,7 @@ impl Machine {
     pub fn objects(&self) -> &Objects
         ensures { result.now ≡ self.now.shared.store }
     {
-        &self.objects
+        &self.shared.objects
     }
 
     /// How many tasks there are.
@@ -154,14 +154,14 @@ impl Machine {
     pub fn touched(&self) -> &[Token]
         ensures { result.now ≡ self.now.shared.touched }
     {
-        self.touched.as_slice()
+        self.shared.touched.as_slice()
     }
 
     /// The i-th type that was touched, from 0 in the order of tokens. None exactly past the last.
     pub fn touched_at(&self, i: u32) -> Option<Token>
         ensures { result ≡ slice_get self.now.shared.touched i }
     {
-        self.touched.at(i)
+        self.shared.touched.at(i)
     }
 }
 

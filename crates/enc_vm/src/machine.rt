@@ -6,14 +6,17 @@ ghost use Rattle.enc_vm.specs.CallsSeen.{AreBodiesOf};
 ghost use Rattle.enc_frames.specs.Machine.{at_rest, version_world};
 ghost use Rattle.enc_vm.specs.Step.{spawn_in};
 ghost use Rattle.enc_vm.specs.Texts.{machine_texts};
+ghost use Rattle.enc_vm.specs.World.{world_in};
 ghost use Rattle.enc_vm.specs.Turns.{IsPlainSpawn, IsPlainTurn, IsSpawn, IsTurn, KeepsSeen, machine_turn};
 
 use crate::declaring::declaring;
 use crate::ends::{SpawnEnd, StepEnd, TaskState};
 use crate::seen::Seen;
+use crate::shared::Shared;
 use crate::spawn::{constructor_frame, first_thread, frame_now, may_spawn};
 use crate::task::Task;
 use crate::touched::Touched;
+use crate::world::World;
 use enc_base::Token;
 use enc_dispatch::Dispatch;
 use enc_objects::Objects;
@@ -29,8 +32,7 @@ const MOST_TASKS: usize = 64;
 /// frame keeps the code that it began with, or that of its last move.
 #[derive(Drop)]
 pub struct Machine {
-    pub(crate) objects: Objects,
-    pub(crate) touched: Touched,
+    pub(crate) shared: Shared,
     pub(crate) tasks: Vec<Task>,
     alloc: Global,
 }
@@ -39,11 +41,12 @@ impl Model for Machine {
     ghost use Rattle.std.specs.Prelude.{◌≤◌, length};
     ghost use Rattle.enc_versions.specs.Version.{Version};
     ghost use Rattle.enc_vm.specs.Anywhere.{ArePlacedAnywhere};
+    ghost use Rattle.enc_vm.specs.SharedSeen.{shared_in};
     ghost use Rattle.enc_frames.specs.Machine.{MachineState};
 
     ghost Value = { MachineState Version };
 
-    ghost view = { λ m. record { shared = record { store = m.objects; touched = m.touched }; tasks = m.tasks.items } };
+    ghost view = { λ m. record { shared = shared_in m.shared; tasks = m.tasks.items } };
 
     ghost invariant = { λ m. (length m.tasks.items ≤ 64) × ArePlacedAnywhere m.tasks.items };
 }
@@ -55,8 +58,10 @@ impl Machine {
         ensures texts { (users : ℕ → Option (List ℕ)) → IsTrue (machine_texts users result) }
     {
         Machine {
-            objects: Objects::begin(alloc),
-            touched: Touched::begin(alloc),
+            shared: Shared {
+                objects: Objects::begin(alloc),
+                touched: Touched::begin(alloc),
+            },
             tasks: Vec::new(alloc),
             alloc,
         }
@@ -84,47 +89,42 @@ impl Machine {
             return Ok(SpawnEnd::Method);
         };
         let owner = declaring(view, method);
-        let constructor = constructor_frame(self.alloc, view, versions, &self.touched, owner)?;
+        let constructor = constructor_frame(
+            self.alloc,
+            view,
+            versions,
+            &self.shared.touched,
+            owner,
+        )?;
         let thread = first_thread(self.alloc, frame, constructor)?;
-        let touched = self.touched.with(self.alloc, owner)?;
+        let touched = self.shared.touched.with(self.alloc, owner)?;
         self.tasks.push(Task {
             state: TaskState::Running,
             thread,
         })?;
-        self.touched = touched;
+        self.shared.touched = touched;
         Ok(SpawnEnd::Task(self.tasks.len() as u32))
     }
 
     /// A step of a task, whose frames hold versions of their methods.
     fn step_version<V: ModuleView>(
         &mut self,
-        view: &V,
-        versions: &Versions,
-        dispatch: &Dispatch,
+        world: &World<'_, V>,
         task: u32,
         seen: &mut Seen,
     ) -> Result<StepEnd, AllocError>
-        requires sound { IsSound (V.meaning view.now) }
-        requires versions { AreBodiesOf (V.users view.now) (V.meaning view.now) versions.now.methods }
-        requires stands { StandsForModule dispatch.now (V.meaning view.now) }
+        requires sound { IsSound (V.meaning world.now.view) }
         ensures turn { IsTurn result seen.new self.new self.old
-            (machine_turn (version_world (V.users view.now) (V.meaning view.now) versions.now.methods) task self.old) }
+            (machine_turn (world_in V.users V.meaning world.now) task self.old) }
         ensures seen { KeepsSeen result seen.new seen.old }
     {
+        world.bodies_law();
         let Some(i) = task.checked_sub(1) else {
             return Ok(StepEnd::Absent);
         };
         match self.tasks.get_mut(i as usize) {
             None => Ok(StepEnd::Absent),
-            Some(task) => task.step(
-                self.alloc,
-                view,
-                versions,
-                dispatch,
-                &mut self.objects,
-                &mut self.touched,
-                seen,
-            ),
+            Some(task) => task.step(world, &mut self.shared, seen),
         }
     }
 
@@ -174,6 +174,12 @@ impl Machine {
             → IsTrue (machine_texts (V.users view.now) self.new) }
         ensures seen { KeepsSeen result seen.new seen.old }
     {
-        self.step_version(view, versions, dispatch, task, seen)
+        let world = World {
+            alloc: self.alloc,
+            view,
+            versions,
+            dispatch,
+        };
+        self.step_version(&world, task, seen)
     }
 }

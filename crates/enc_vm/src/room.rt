@@ -146,7 +146,7 @@ impl Machine {
         };
         match self.tasks.get(i as usize) {
             None => 0,
-            Some(task) => task.room(&self.objects),
+            Some(task) => task.room(&self.shared.objects),
         }
     }
 

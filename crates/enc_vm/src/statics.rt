@@ -4,25 +4,25 @@ ghost use Rattle.enc_base.specs.declared.token.Token.{Token as TheToken};
 ghost use Rattle.enc_plain.specs.Module.{has_row};
 ghost use Rattle.enc_base.specs.Tables.{field as fields, type_def};
 ghost use Rattle.enc_vm.specs.Calls.{declaring, touch};
-ghost use Rattle.enc_vm.specs.CallsSeen.{AreBodiesOf, Makes};
+ghost use Rattle.enc_vm.specs.CallsSeen.{Makes};
 ghost use Rattle.enc_frames.specs.FramesSeen.{shared_by};
 ghost use Rattle.enc_frames.specs.Does.{Does};
-ghost use Rattle.enc_frames.specs.Machine.{version_world};
-ghost use Rattle.enc_vm.specs.StaticsSeen.{accessed, accessed_on, accessed_by};
+ghost use Rattle.enc_vm.specs.SharedSeen.{shared_in};
+ghost use Rattle.enc_vm.specs.StaticsSeen.{access_made, accessed, accessed_by};
 ghost use Rattle.enc_vm.specs.Step.{act_on};
 ghost use Rattle.enc_vm.specs.TouchSeen.{first_on};
+ghost use Rattle.enc_vm.specs.World.{world_in};
 ghost use Rattle.enc_frames.specs.declared.act.Act.TheVariants.{LoadStatic, StoreStatic};
 
 use crate::declaring::{FirstTouch, first_touch};
 use crate::returns::FrameChange;
+use crate::shared::Shared;
 use crate::thread::Thread;
-use crate::touched::Touched;
+use crate::world::World;
 use enc_base::Token;
 use enc_frames::{Frame, Stop, load_static, named_field, store_static};
 use enc_objects::{Kind, Objects};
 use enc_plain::ModuleView;
-use enc_versions::Versions;
-use std::alloc::Global;
 
 /// What an instruction does to a static field.
 #[derive(Clone, Copy, Debug, PartialEq, Eq)]
@@ -34,7 +34,7 @@ pub(crate) enum StaticAccess {
 }
 
 /// The type that declares a field (ECMA-335 II.22.37).
-#[tactic(auto, using(crate::proofs::Declared::declaring_steps))]
+#[tactic(auto, using(crate::proofs::Declared::declaring_lemmas))]
 fn declaring<V: ModuleView>(view: &V, field: Token) -> Token
     requires row { IsTrue (has_row (V.meaning view.now) field) }
     requires table { field.table ≡ fields }
@@ -45,41 +45,41 @@ fn declaring<V: ModuleView>(view: &V, field: Token) -> Token
     view.owner(field)
 }
 
+/// What an instruction does to a static field, and where the next one begins.
+#[derive(Clone, Copy, Debug, PartialEq, Eq)]
+pub(crate) struct FieldAccess {
+    pub how: StaticAccess,
+    pub field: Token,
+    pub next: u32,
+}
+
+/// The same of a field whose kind is known.
+#[derive(Clone, Copy, Debug, PartialEq, Eq)]
+pub(crate) struct KnownAccess {
+    pub access: FieldAccess,
+    pub kind: Kind,
+}
+
 /// A static field of a kind is loaded or stored.
-fn access_in(
-    objects: &mut Objects,
-    frame: &mut Frame,
-    how: StaticAccess,
-    kind: Kind,
-    next: u32,
-    field: Token,
-) -> Result<(), Stop>
-    ensures { Does result (objects.new, frame.new) (
-      objects.old,
-      frame.old,
-    ) (accessed how kind next field objects.old frame.old) }
+fn access_in(objects: &mut Objects, frame: &mut Frame, known: KnownAccess) -> Result<(), Stop>
+    ensures { Does result (objects.new, frame.new) (objects.old, frame.old)
+        (accessed known.access.how known.kind known.access.next known.access.field objects.old frame.old) }
 {
+    let FieldAccess { how, field, next } = known.access;
     match how {
-        StaticAccess::Load => load_static(objects, frame, kind, next, field),
-        StaticAccess::Store => store_static(objects, frame, kind, next, field),
+        StaticAccess::Load => load_static(objects, frame, known.kind, next, field),
+        StaticAccess::Store => store_static(objects, frame, known.kind, next, field),
     }
 }
 
 impl Thread {
     /// A static field of a kind is loaded or stored, where its type was touched.
-    fn access(
-        &mut self,
-        objects: &mut Objects,
-        how: StaticAccess,
-        kind: Kind,
-        next: u32,
-        field: Token,
-    ) -> Result<FrameChange, Stop>
-        ensures { (touched : List TheToken) → Makes result (shared_by objects.new touched)
-            (shared_by objects.old touched) self.new self.old
-            (accessed_on how kind next field self.old (shared_by objects.old touched)) }
+    fn access(&mut self, objects: &mut Objects, known: KnownAccess) -> Result<FrameChange, Stop>
+        ensures { (touched : List TheToken) →
+            Makes result (shared_by objects.new touched) (shared_by objects.old touched) self.new self.old
+            (access_made known self.old (shared_by objects.old touched)) }
     {
-        match access_in(objects, &mut self.top, how, kind, next, field) {
+        match access_in(objects, &mut self.top, known) {
             Err(stop) => Err(stop),
             Ok(()) => Ok(FrameChange::Stays),
         }
@@ -88,125 +88,98 @@ impl Thread {
     /// A static field behind the first touch of its type: the type's constructor is entered, where it has one.
     fn access_first<V: ModuleView>(
         &mut self,
-        alloc: Global,
-        view: &V,
-        versions: &Versions,
-        objects: &mut Objects,
-        touched: &mut Touched,
+        world: &World<'_, V>,
+        shared: &mut Shared,
         first: FirstTouch,
-        how: StaticAccess,
-        kind: Kind,
-        next: u32,
-        field: Token,
+        known: KnownAccess,
     ) -> Result<FrameChange, Stop>
-        requires versions { AreBodiesOf (V.users view.now) (V.meaning view.now) versions.now.methods }
-        ensures { Makes result (shared_by objects.new touched.new) (shared_by objects.old touched.old) self.new self.old
-            (first_on (version_world (V.users view.now) (V.meaning view.now) versions.now.methods) first
-            (accessed_on how kind next field self.old) self.old objects.old) }
+        ensures { Makes result (shared_in shared.new) (shared_in shared.old) self.new self.old
+            (first_on (world_in V.users V.meaning world.now) first (access_made known self.old)
+            self.old shared.old.objects) }
     {
         let Some(constructor) = first.constructor else {
-            let change = self.access(objects, how, kind, next, field)?;
-            *touched = first.touched;
+            let change = self.access(&mut shared.objects, known)?;
+            shared.touched = first.touched;
             return Ok(change);
         };
-        let change = self.enter_constructor(alloc, view, versions, constructor)?;
-        *touched = first.touched;
+        let change = self.enter_constructor(world, constructor)?;
+        shared.touched = first.touched;
         Ok(change)
     }
 
     /// A static field behind the touch of its type (ECMA-335 II.10.5.3).
     fn touch_and_access<V: ModuleView>(
         &mut self,
-        alloc: Global,
-        view: &V,
-        versions: &Versions,
-        objects: &mut Objects,
-        touched: &mut Touched,
-        how: StaticAccess,
-        kind: Kind,
-        next: u32,
-        field: Token,
+        world: &World<'_, V>,
+        shared: &mut Shared,
+        known: KnownAccess,
     ) -> Result<FrameChange, Stop>
-        requires row { IsTrue (has_row (V.meaning view.now) field) }
-        requires table { field.table ≡ fields }
-        requires versions { AreBodiesOf (V.users view.now) (V.meaning view.now) versions.now.methods }
-        ensures { Makes result (shared_by objects.new touched.new) (shared_by objects.old touched.old) self.new self.old
-            (touch (version_world (V.users view.now) (V.meaning view.now) versions.now.methods)
-            (shared_by objects.old touched.old) self.old (declaring (V.meaning view.now) field)
-            (accessed_on how kind next field self.old)) }
+        requires row { IsTrue (has_row (V.meaning world.now.view) known.access.field) }
+        requires table { known.access.field.table ≡ fields }
+        ensures { Makes result (shared_in shared.new) (shared_in shared.old) self.new self.old
+            (touch (world_in V.users V.meaning world.now) (shared_in shared.old) self.old
+            (declaring (V.meaning world.now.view) known.access.field) (access_made known self.old)) }
     {
-        let owner = declaring(view, field);
-        match first_touch(alloc, view, touched, owner) {
+        let owner = declaring(world.view, known.access.field);
+        match first_touch(world.alloc, world.view, &shared.touched, owner) {
             Err(_) => Err(Stop::Memory),
-            Ok(None) => self.access(objects, how, kind, next, field),
-            Ok(Some(first)) => self.access_first(
-                alloc, view, versions, objects, touched, first, how, kind, next, field,
-            ),
+            Ok(None) => self.access(&mut shared.objects, known),
+            Ok(Some(first)) => self.access_first(world, shared, first, known),
         }
     }
 
     /// A static field by its token: X2 where its type has no kind.
     fn on_static<V: ModuleView>(
         &mut self,
-        alloc: Global,
-        view: &V,
-        versions: &Versions,
-        objects: &mut Objects,
-        touched: &mut Touched,
-        how: StaticAccess,
-        next: u32,
-        field: Token,
+        world: &World<'_, V>,
+        shared: &mut Shared,
+        access: FieldAccess,
     ) -> Result<FrameChange, Stop>
-        requires versions { AreBodiesOf (V.users view.now) (V.meaning view.now) versions.now.methods }
-        ensures { Makes result (shared_by objects.new touched.new) (shared_by objects.old touched.old) self.new self.old
-            (accessed_by (version_world (V.users view.now) (V.meaning view.now) versions.now.methods)
-            (V.meaning view.now) how next field (shared_by objects.old touched.old) self.old) }
+        ensures { Makes result (shared_in shared.new) (shared_in shared.old) self.new self.old
+            (accessed_by (world_in V.users V.meaning world.now) (V.meaning world.now.view)
+            access.how access.next access.field (shared_in shared.old) self.old) }
     {
-        let kind = named_field(view, field)?;
-        self.touch_and_access(
-            alloc, view, versions, objects, touched, how, kind, next, field,
-        )
+        let kind = named_field(world.view, access.field)?;
+        self.touch_and_access(world, shared, KnownAccess { access, kind })
     }
 
     /// `ldsfld` (ECMA-335 III.4.14).
     #[tactic(auto, using(crate::proofs::Accessed::load_is))]
     pub(crate) fn load_static<V: ModuleView>(
         &mut self,
-        alloc: Global,
-        view: &V,
-        versions: &Versions,
-        objects: &mut Objects,
-        touched: &mut Touched,
+        world: &World<'_, V>,
+        shared: &mut Shared,
         next: u32,
         field: Token,
     ) -> Result<FrameChange, Stop>
-        requires versions { AreBodiesOf (V.users view.now) (V.meaning view.now) versions.now.methods }
-        ensures { Makes result (shared_by objects.new touched.new) (shared_by objects.old touched.old) self.new self.old
-            (act_on (version_world (V.users view.now) (V.meaning view.now) versions.now.methods) next (LoadStatic field)
-            (shared_by objects.old touched.old) self.old) }
+        ensures { Makes result (shared_in shared.new) (shared_in shared.old) self.new self.old
+            (act_on (world_in V.users V.meaning world.now) next (LoadStatic field) (shared_in shared.old) self.old) }
     {
-        let how = StaticAccess::Load;
-        self.on_static(alloc, view, versions, objects, touched, how, next, field)
+        let access = FieldAccess {
+            how: StaticAccess::Load,
+            field,
+            next,
+        };
+        self.on_static(world, shared, access)
     }
 
     /// `stsfld` (ECMA-335 III.4.30).
     #[tactic(auto, using(crate::proofs::Accessed::store_is))]
     pub(crate) fn store_static<V: ModuleView>(
         &mut self,
-        alloc: Global,
-        view: &V,
-        versions: &Versions,
-        objects: &mut Objects,
-        touched: &mut Touched,
+        world: &World<'_, V>,
+        shared: &mut Shared,
         next: u32,
         field: Token,
     ) -> Result<FrameChange, Stop>
-        requires versions { AreBodiesOf (V.users view.now) (V.meaning view.now) versions.now.methods }
-        ensures { Makes result (shared_by objects.new touched.new) (shared_by objects.old touched.old) self.new self.old
-            (act_on (version_world (V.users view.now) (V.meaning view.now) versions.now.methods) next
-            (StoreStatic field) (shared_by objects.old touched.old) self.old) }
+        ensures { Makes result (shared_in shared.new) (shared_in shared.old) self.new self.old
+            (act_on (world_in V.users V.meaning world.now) next (StoreStatic field) (shared_in shared.old) self.old) }
     {
-        let how = StaticAccess::Store;
-        self.on_static(alloc, view, versions, objects, touched, how, next, field)
+        let access = FieldAccess {
+            how: StaticAccess::Store,
+            field,
+            next,
+        };
+        self.on_static(world, shared, access)
     }
 }

@@ -1,14 +1,13 @@
 //! Tasks, and a step of each (ECMA-335 I.12.3.2).
 ghost use Rattle.std.specs.Prelude.{◌≡◌, ℕ, List, Option, None};
-ghost use Rattle.enc_dispatch.specs.Index.{StandsForModule};
 ghost use Rattle.enc_plain.specs.Module.{Module};
 ghost use Rattle.enc_versions.specs.Version.{Version};
-ghost use Rattle.enc_vm.specs.CallsSeen.{AreBodiesOf};
-ghost use Rattle.enc_frames.specs.FramesSeen.{shared_by};
+ghost use Rattle.enc_vm.specs.SharedSeen.{shared_in};
 ghost use Rattle.enc_vm.specs.EffectsSeen.{effect_made, effect_of_flight, step_end_of, stepped_as, Steps, Turns};
 ghost use Rattle.enc_frames.specs.Handlers.{fly};
 ghost use Rattle.enc_frames.specs.HandlersSeen.{own_clauses};
-ghost use Rattle.enc_frames.specs.Machine.{Shared, Thread as TheThread, version_world};
+ghost use Rattle.enc_frames.specs.Machine.{Shared as TheShared, Thread as TheThread, version_world};
+ghost use Rattle.enc_vm.specs.World.{world_in};
 ghost use Rattle.enc_vm.specs.Placed.{IsFramePlaced, IsTaskPlaced};
 ghost use Rattle.enc_vm.specs.Step.{advance, flight_made, line_of, step_task, stepped, stepped_by, stepped_with, trapped_in};
 ghost use Rattle.enc_vm.specs.Turns.{KeepsSeen};
@@ -18,13 +17,12 @@ use crate::ends::{StepEnd, TaskState};
 use crate::flights::FlightEnd;
 use crate::returns::FrameChange;
 use crate::seen::Seen;
+use crate::shared::Shared;
 use crate::thread::Thread;
-use crate::touched::Touched;
-use enc_dispatch::Dispatch;
+use crate::world::World;
 use enc_frames::{Flight, Stop};
-use enc_objects::{Objects, Trap};
+use enc_objects::Trap;
 use enc_plain::ModuleView;
-use enc_versions::Versions;
 use std::alloc::{AllocError, Global};
 use std::marker::Model;
 
@@ -54,8 +52,8 @@ struct Outcome {
 
 /// What a step came to that made this of its task.
 fn came_to(line: Option<u32>, effect: Effect) -> Outcome
-    ensures { (s : Shared) (t : TheThread Version)
-        → stepped line (effect_made effect s t) ≡ stepped_as result.state result.seen s t }
+    ensures { (s : TheShared) (t : TheThread Version) →
+        stepped line (effect_made effect s t) ≡ stepped_as result.state result.seen s t }
 {
     let nothing = Seen {
         line,
@@ -110,8 +108,8 @@ fn effect_of_flight(end: FlightEnd) -> Effect
 
 /// What a step came to that trapped.
 fn trapped_at(line: Option<u32>, trap: Trap) -> Outcome
-    ensures { (s : Shared) (t : TheThread Version)
-        → trapped_in line s t trap ≡ stepped_as result.state result.seen s t }
+    ensures { (s : TheShared) (t : TheThread Version) →
+        trapped_in line s t trap ≡ stepped_as result.state result.seen s t }
 {
     Outcome {
         state: TaskState::Trapped(trap),
@@ -146,7 +144,8 @@ impl Thread {
     /// A step by the object that is on its way.
     #[tactic(auto, using(crate::proofs::FlightTurns::flight_turn))]
     fn step_flight(&mut self, alloc: Global, flight: Flight) -> Result<Outcome, AllocError>
-        ensures { (s : Shared) → Turns result s s self.new self.old
+        ensures { (s : TheShared) →
+            Turns result s s self.new self.old
             (stepped None (flight_made s (fly (own_clauses self.old.top) self.old flight))) }
     {
         match self.fly(alloc, flight) {
@@ -158,24 +157,16 @@ impl Thread {
     /// A step by the instruction.
     fn step_instruction<V: ModuleView>(
         &mut self,
-        alloc: Global,
-        view: &V,
-        versions: &Versions,
-        dispatch: &Dispatch,
-        objects: &mut Objects,
-        touched: &mut Touched,
+        world: &World<'_, V>,
+        shared: &mut Shared,
     ) -> Result<Outcome, AllocError>
-        requires versions { AreBodiesOf (V.users view.now) (V.meaning view.now) versions.now.methods }
-        requires stands { StandsForModule dispatch.now (V.meaning view.now) }
-        requires placed { IsFramePlaced
-            (version_world (V.users view.now) (V.meaning view.now) versions.now.methods) self.old.top }
-        ensures { Turns result (shared_by objects.new touched.new) (shared_by objects.old touched.old) self.new self.old
-            (stepped_by (line_of (version_world (V.users view.now) (V.meaning view.now) versions.now.methods)
-            self.old.top) (shared_by objects.old touched.old) self.old (advance (version_world (V.users view.now)
-            (V.meaning view.now) versions.now.methods) (shared_by objects.old touched.old) self.old)) }
+        requires placed { IsFramePlaced (world_in V.users V.meaning world.now) self.old.top }
+        ensures { Turns result (shared_in shared.new) (shared_in shared.old) self.new self.old
+            (stepped_by (line_of (world_in V.users V.meaning world.now) self.old.top) (shared_in shared.old)
+            self.old (advance (world_in V.users V.meaning world.now) (shared_in shared.old) self.old)) }
     {
         let line = self.line();
-        match self.advance(alloc, view, versions, dispatch, objects, touched) {
+        match self.advance(world, shared) {
             Ok(effect) => Ok(came_to(line, effect)),
             Err(Stop::Memory) => Err(AllocError),
             Err(Stop::Trap(trap)) => Ok(trapped_at(line, trap)),
@@ -185,24 +176,16 @@ impl Thread {
     /// A step.
     fn step<V: ModuleView>(
         &mut self,
-        alloc: Global,
-        view: &V,
-        versions: &Versions,
-        dispatch: &Dispatch,
-        objects: &mut Objects,
-        touched: &mut Touched,
+        world: &World<'_, V>,
+        shared: &mut Shared,
     ) -> Result<Outcome, AllocError>
-        requires versions { AreBodiesOf (V.users view.now) (V.meaning view.now) versions.now.methods }
-        requires stands { StandsForModule dispatch.now (V.meaning view.now) }
-        requires placed { IsFramePlaced
-            (version_world (V.users view.now) (V.meaning view.now) versions.now.methods) self.old.top }
-        ensures { Turns result (shared_by objects.new touched.new) (shared_by objects.old touched.old) self.new self.old
-            (stepped_with (version_world (V.users view.now) (V.meaning view.now) versions.now.methods)
-            (shared_by objects.old touched.old) self.old self.old.flight) }
+        requires placed { IsFramePlaced (world_in V.users V.meaning world.now) self.old.top }
+        ensures { Turns result (shared_in shared.new) (shared_in shared.old) self.new self.old
+            (stepped_with (world_in V.users V.meaning world.now) (shared_in shared.old) self.old self.old.flight) }
     {
         match self.flight {
-            Some(flight) => self.step_flight(alloc, flight),
-            None => self.step_instruction(alloc, view, versions, dispatch, objects, touched),
+            Some(flight) => self.step_flight(world.alloc, flight),
+            None => self.step_instruction(world, shared),
         }
     }
 }
@@ -212,30 +195,20 @@ impl Task {
     #[tactic(auto, using(crate::proofs::StepTurns::went_shown))]
     pub(crate) fn step<V: ModuleView>(
         &mut self,
-        alloc: Global,
-        view: &V,
-        versions: &Versions,
-        dispatch: &Dispatch,
-        objects: &mut Objects,
-        touched: &mut Touched,
+        world: &World<'_, V>,
+        shared: &mut Shared,
         seen: &mut Seen,
     ) -> Result<StepEnd, AllocError>
-        requires versions { AreBodiesOf (V.users view.now) (V.meaning view.now) versions.now.methods }
-        requires stands { StandsForModule dispatch.now (V.meaning view.now) }
-        requires placed { IsTaskPlaced
-            (version_world (V.users view.now) (V.meaning view.now) versions.now.methods) self.old }
-        ensures steps { Steps result seen.new (shared_by objects.new touched.new)
-            (shared_by objects.old touched.old) self.new self.old (step_task (version_world (V.users view.now)
-            (V.meaning view.now) versions.now.methods) (shared_by objects.old touched.old) self.old) }
+        requires placed { IsTaskPlaced (world_in V.users V.meaning world.now) self.old }
+        ensures steps { Steps result seen.new (shared_in shared.new) (shared_in shared.old) self.new self.old
+            (step_task (world_in V.users V.meaning world.now) (shared_in shared.old) self.old) }
         ensures seen { KeepsSeen result seen.new seen.old }
     {
         match self.state {
             TaskState::Ended => Ok(StepEnd::Idle),
             TaskState::Trapped(_) => Ok(StepEnd::Idle),
             TaskState::Running => {
-                let outcome = self
-                    .thread
-                    .step(alloc, view, versions, dispatch, objects, touched)?;
+                let outcome = self.thread.step(world, shared)?;
                 *seen = outcome.seen;
                 self.state = outcome.state;
                 Ok(step_end_of(outcome.state))
