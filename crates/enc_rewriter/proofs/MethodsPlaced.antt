@@ -23,7 +23,7 @@ use Rattle.enc_rows.proofs.Below.{sum_more, sum_part}
 use Rattle.enc_schema.specs.Schema.{columns_in, column_in}
 use Rattle.enc_schema.specs.declared.column.Column.TheVariants.{Num32}
 use Rattle.enc_rewriter.specs.Placed.{loaded_with, IsBodyPlaced}
-use Rattle.enc_rewriter.specs.Standing.{StandsAt, Weighs, weight_of, bodies_before, AreBodiesPlaced}
+use Rattle.enc_rewriter.specs.Standing.{StandsAt, weight_of, bodies_before, AreBodiesPlaced, MayBeWritten, ComesNext}
 use Rattle.enc_rewriter.specs.Values.{KeepValues, texts_named, values_at, values_if}
 use Rattle.enc_rewriter.specs.Weight.{body_weight, bodies_weight}
 use Rattle.enc_rewriter.specs.declared.pass.Pass.TheVariants.{Users}
@@ -78,15 +78,6 @@ weight_one m n b is = weight_more m n ∙ ap (λ o. bodies_before m n + body_wei
 pub weight_none : (m : Module) (n : ℕ) → cell_of m (nth_row 0x06 n) 0 ≡ Some (body None) → bodies_before m (n + 1) ≡ bodies_before m n
 weight_none m n is = weight_more m n ∙ ap (λ o. bodies_before m n + body_weight o) is ∙ omega arith
 
--- it can be written behind the bodies before it
-pub record IsReady (m : Module) (h : Built) (texts : ℕ → Option (List ℕ)) (c : Code) (size : ℕ) : Type 0 where
-  pub sound : body_is_sound (row_count m) (body_of texts c) ≡ true
-  pub nil : nil_or c.locals ≡ c.locals
-  pub rows : c.locals.row < 2 ^ 24
-  pub kept : list_all (is_kept h.users) (texts_named (body_of texts c).code) ≡ true
-  pub near : size < 2 ^ 31 + 4096
-  pub room : size + length c.code + 28 * length (clauses_of c.sections) + 32 < 2 ^ 32
-
 weight_of_code : (texts : ℕ → Option (List ℕ)) (c : Code) → weight_of (body_of texts c) ≡ 32 + length c.code + 24 * length (clauses_of c.sections)
 unfolding body_of
 weight_of_code texts c = ap (λ k. 32 + length c.code + 24 * k) (length-map (clauses_of c.sections) handler_meant)
@@ -95,9 +86,12 @@ locals_of : (texts : ℕ → Option (List ℕ)) (c : Code) → (body_of texts c)
 unfolding body_of
 locals_of texts c = refl
 
-pub ready : (m : Module) (h : Built) (texts : ℕ → Option (List ℕ)) (n : ℕ) (c : Code) (size : ℕ) → IsSound m → KeepValues m h → n < row_count m 0x06 → bodies_weight m < 2 ^ 31 → Weighs (bodies_before m n) size
-    → cell_of m (nth_row 0x06 n) 0 ≡ Some (body (Some (body_of texts c))) → IsReady m h texts c size
-ready m h texts n c size sound keeps low light weighs is =
+-- it can be written behind the bodies before it
+pub ready : (m : Module) (h : Built) (texts : ℕ → Option (List ℕ)) (n : ℕ) (c : Code) (size : ℕ) → ComesNext m h n size
+    → cell_of m (nth_row 0x06 n) 0 ≡ Some (body (Some (body_of texts c))) → MayBeWritten m texts h c size
+ready m h texts n c size next is =
+    let sound = next.all.sound in
+    let low = next.row in
     let b = body_of texts c in
     let s = body_sound m n b sound low is in
     let l = locals_of texts c in
@@ -109,9 +103,11 @@ ready m h texts n c size sound keeps low light weighs is =
       sound = s.sound;
       nil = ap nil_or (sym l) ∙ s.nil ∙ l;
       rows = row_few m c.locals (c.locals.row == 0) refl sound good;
-      kept = users_kept m h n b keeps low is;
-      near = omega (arith, weighs, within, light);
-      room = omega (arith, weighs, within, light, one, weight);
+      starts = next.all.kept.starts;
+      kept = users_kept m h n b next.all.kept low is;
+      few = omega (arith, next.weighs, within, next.all.light, one, weight);
+      near = omega (arith, next.weighs, within, next.all.light);
+      room = omega (arith, next.weighs, within, next.all.light, one, weight);
     }
 
 -- it is placed where it stands

@@ -1,5 +1,5 @@
 -- The distinct values of a heap while they are borrowed.
-use Rattle.std.specs.Prelude.{◌≡◌, ℕ, ◌+◌, ◌%◌, ◌≤◌, Bool, true, false, not, List, [], ◌∷◌, length, map, sum_by, Result, Ok, Err, ◌==◌}
+use Rattle.std.specs.Prelude.{◌≡◌, ℕ, ◌+◌, ◌%◌, ◌<◌, ◌≤◌, Bool, true, false, not, List, [], ◌∷◌, length, map, sum_by, Result, Ok, Err, ◌==◌}
 use Rattle.std.specs.Borrow.{Bor}
 use Rattle.std.specs.List.{list_any, list_all}
 use Rattle.enc_meta.specs.Built.{Built, text_bytes, user_bytes, blob_bytes, with_value, passes}
@@ -51,6 +51,13 @@ pub record AreBorrowed (p : Pass) (bytes : ℕ) (values : List (List ℕ)) : Typ
   pub within : bytes + 1 ≤ heap_limit p
   pub distinct : with_values [] values ≡ values
   pub fit : list_all (may_be_listed p) values ≡ true
+
+-- a value that isn't empty may be listed, and with it the values take so many bytes, within the limit of their heap
+pub record HasRoomFor (l : BorrowedList) (v : List ℕ) (with_it : ℕ) : Type 0 where
+  pub some : 0 < length v
+  pub fit : may_be_listed l.pass v ≡ true
+  pub bytes : with_it ≡ bytes_of l.pass l.values + length (written_in l.pass v)
+  pub within : with_it < heap_limit l.pass
 
 -- a value is refused exactly where its heap would pass the limit with it; want of memory tells nothing
 abbrev pub RefusesIn : Result Unit BuildFault → BorrowedList → List ℕ → Type 0

@@ -133,11 +133,20 @@ unfoldable pub needs_jtd : Module → Bool
 needs_jtd m = list_any (has_wide_run m)
     (tables.field ∷ tables.method_def ∷ tables.param ∷ tables.event ∷ tables.property ∷ [])
 
--- what the numbers of a module's rows are found by
-pub record AreReady (m : Module) (h : Built) (r : RunLists) (p : Placed) : Type 0 where
+-- what the numbers of columns that are no places of bytes are found by
+pub record AreSources (m : Module) (h : Built) (r : RunLists) : Type 0 where
   pub sound : IsSound m
   pub kept : KeepValues m h
   pub runs : AreRuns m r
+
+-- a column is no place of bytes, neither of a body nor of a field's
+pub record IsPlainColumn (t i : ℕ) : Type 0 where
+  pub body : is_body t i ≡ false
+  pub field : is_field t i ≡ false
+
+-- what the numbers of a module's rows are found by
+pub record AreReady (m : Module) (h : Built) (r : RunLists) (p : Placed) : Type 0 where
+  pub sources : AreSources m h r
   pub methods : length p.bodies ≡ row_count m tables.method_def
   pub fields : length p.fields ≡ row_count m tables.field_rva
 

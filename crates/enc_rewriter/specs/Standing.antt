@@ -1,5 +1,5 @@
 -- A body that stands in the code of an image that is written (ECMA-335 II.25.4).
-use Rattle.std.specs.Prelude.{◌≡◌, ℕ, ◌+◌, ◌*◌, ◌<◌, ◌≤◌, min, Bool, true, ◌||◌, List, length, Option, Some, ◌==◌, if◌then◌else◌, slice_index}
+use Rattle.std.specs.Prelude.{◌≡◌, ℕ, ◌+◌, ◌*◌, ◌^◌, ◌<◌, ◌≤◌, min, Bool, true, ◌||◌, List, length, Option, Some, ◌==◌, if◌then◌else◌, slice_index}
 use Rattle.std.specs.List.{list_all}
 use Rattle.std.specs.BTreeMap.{BTreeMap, get}
 use Rattle.std.specs.BTreeSet.{BTreeSet}
@@ -7,17 +7,20 @@ use Rattle.std.specs.Ordering.{nat_cmp}
 use Rattle.enc_base.specs.Passed.{AllPass}
 use Rattle.enc_base.specs.Token.{nth_row}
 use Rattle.enc_meta.specs.Built.{Built, is_kept}
-use Rattle.enc_rewriter.specs.Values.{users_of_body}
 use Rattle.enc_opcodes.specs.declared.code.Clause.{Clause}
-use Rattle.enc_opcodes.specs.Body.{Body}
+use Rattle.enc_opcodes.specs.Body.{Body, Code, body_of, nil_or}
+use Rattle.enc_opcodes.specs.Clause.{clauses_of}
+use Rattle.enc_opcodes.specs.Instruction.{end_of}
+use Rattle.enc_opcodes.specs.Sound.{body_is_sound}
 use Rattle.enc_plain.specs.Bodies.{body_loaded, code_loaded, code_is_good}
 use Rattle.enc_plain.specs.Cell.{body, field}
 use Rattle.enc_plain.specs.Module.{Module, cell_of}
-use Rattle.enc_plain.specs.Sound.{row_count}
+use Rattle.enc_plain.specs.Sound.{IsSound, row_count}
 use Rattle.enc_base.specs.Tables as tables
 use Rattle.enc_rows.specs.Sums.{sum_below}
 use Rattle.enc_rewriter.specs.Placed.{loaded_with, IsBodyPlaced, IsFieldPlaced}
-use Rattle.enc_rewriter.specs.Weight.{row_weight, body_weight, field_weight, most_weight}
+use Rattle.enc_rewriter.specs.Values.{KeepValues, no_starts, texts_named, users_of_body}
+use Rattle.enc_rewriter.specs.Weight.{row_weight, body_weight, bodies_weight, field_weight, fields_weight, most_weight}
 
 -- this body is at the RVA, and good there, whatever stands behind the code
 pub record StandsAt (count : ℕ → ℕ) (users : ℕ → Option (List ℕ)) (code : List ℕ) (rva : ℕ) (b : Body) : Type 0 where
@@ -87,3 +90,45 @@ abbrev pub AreKnown : Module → (ℕ → Option (List ℕ)) → (ℕ → Option
 AreKnown m users places code known =
     (place rva n : ℕ) → get nat_cmp known place ≡ Some rva → n < row_count m tables.method_def
     → cell_of m (nth_row tables.method_def n) 0 ≡ Some (body (places place)) → IsBodyPlaced m users code n rva
+
+-- whole code may be copied into heaps: they stand behind no others, and keep its user texts
+pub record MayBeCopied (texts : ℕ → Option (List ℕ)) (h : Built) (c : Code) : Type 0 where
+  pub few : length c.code < 2 ^ 32
+  pub starts : h.starts ≡ no_starts
+  pub whole : end_of c.code 0 ≡ length c.code
+  pub kept : list_all (is_kept h.users) (texts_named (body_of texts c).code) ≡ true
+
+-- a body may be written behind so many bytes: it is sound, heaps behind no others keep its user texts, and it has room
+pub record MayBeWritten (m : Module) (texts : ℕ → Option (List ℕ)) (h : Built) (c : Code) (size : ℕ) : Type 0 where
+  pub sound : body_is_sound (row_count m) (body_of texts c) ≡ true
+  pub nil : nil_or c.locals ≡ c.locals
+  pub rows : c.locals.row < 2 ^ 24
+  pub starts : h.starts ≡ no_starts
+  pub kept : list_all (is_kept h.users) (texts_named (body_of texts c).code) ≡ true
+  pub few : length c.code < 2 ^ 32
+  pub near : size < 2 ^ 31 + 4096
+  pub room : size + length c.code + 28 * length (clauses_of c.sections) + 32 < 2 ^ 32
+
+-- the bodies of a sound module may be written: the heaps keep its values, and its bodies are within the limit
+pub record MayPlaceBodies (m : Module) (h : Built) : Type 0 where
+  pub sound : IsSound m
+  pub kept : KeepValues m h
+  pub light : bodies_weight m < 2 ^ 31
+
+-- and so may its code: its bodies and the initial bytes of its fields are within the limit together
+pub record MayPlaceCode (m : Module) (h : Built) : Type 0 where
+  pub sound : IsSound m
+  pub kept : KeepValues m h
+  pub weight : bodies_weight m + fields_weight m < 2 ^ 31
+
+-- a method of the module comes next, behind code of so many bytes, of the weight of the bodies before its own
+pub record ComesNext (m : Module) (h : Built) (n size : ℕ) : Type 0 where
+  pub all : MayPlaceBodies m h
+  pub row : n < row_count m tables.method_def
+  pub weighs : Weighs (bodies_before m n) size
+
+-- the bodies of the methods before one stand in the code: it has their weight, and those of known places are placed
+pub record BodiesStand (m : Module) (users : ℕ → Option (List ℕ)) (places : ℕ → Option Body) (n : ℕ) (code : List ℕ)
+    (rvas : BTreeMap ℕ ℕ) : Type 0 where
+  pub weighs : Weighs (bodies_before m n) (length code)
+  pub known : AreKnown m users places code rvas

@@ -17,7 +17,7 @@ use Rattle.enc_opcodes.specs.Body.{Body}
 use Rattle.enc_opcodes.specs.Instruction.{Argument, text as named, Instruction}
 use Rattle.enc_plain.specs.Cell.{Cell, text, blob, guid, body, Kind, texts, blobs, guids, bodies}
 use Rattle.enc_plain.specs.Module.{Module, has_row, cell_of}
-use Rattle.enc_plain.specs.Sound.{row_count}
+use Rattle.enc_plain.specs.Sound.{IsSound, row_count}
 use Rattle.enc_rows.specs.Sums.{below}
 use Rattle.enc_schema.specs.Schema.{columns_in}
 use Rattle.enc_rewriter.specs.declared.pass.Pass.{Pass}
@@ -56,6 +56,11 @@ gathers pass.Users (Some bodies) = true
 gathers pass.Blobs (Some blobs) = true
 gathers pass.Guids (Some guids) = true
 gathers _ _ = false
+
+-- a sound module has the row
+pub record IsSoundRow (m : Module) (u : Token) : Type 0 where
+  pub sound : IsSound m
+  pub row : has_row m u ≡ true
 
 -- the values of a row's column, of a row, of a table, and of all tables
 unfoldable pub values_at : Pass → Module → Token → ℕ → List (List ℕ)

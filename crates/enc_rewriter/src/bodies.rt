@@ -1,18 +1,16 @@
 //! Bodies in the code of an image that is written (ECMA-335 II.25.4).
-ghost use Rattle.std.specs.Prelude.{◌≡◌, ◌+◌, ◌*◌, ◌<◌, ◌≤◌, ◌^◌, ◌++◌, [], ℕ, true, List, Some, length, map, is_some, IsTrue, IfOk, OnOk, if◌then◌else◌};
+ghost use Rattle.std.specs.Prelude.{◌≡◌, ◌+◌, ◌*◌, ◌<◌, ◌≤◌, ◌++◌, [], ℕ, List, Some, length, map, is_some, IsTrue, IfOk, OnOk, if◌then◌else◌};
 ghost use Rattle.std.specs.List.{list_all};
 ghost use Rattle.enc_base.specs.Numbers.{AreBytes};
 ghost use Rattle.enc_il.specs.Seen.{all_sections};
 ghost use Rattle.enc_il.specs.Written.{clause_fits};
-ghost use Rattle.enc_meta.specs.Built.{is_kept, heaps_built};
+ghost use Rattle.enc_meta.specs.Built.{heaps_built};
 ghost use Rattle.enc_meta.specs.Heaps.{user_at};
-ghost use Rattle.enc_opcodes.specs.Body.{body_of, code_seen, nil_or};
+ghost use Rattle.enc_opcodes.specs.Body.{body_of, code_seen};
 ghost use Rattle.enc_opcodes.specs.Clause.{clauses_in, clauses_of};
-ghost use Rattle.enc_opcodes.specs.Sound.{body_is_sound};
-ghost use Rattle.enc_plain.specs.Sound.{IsSound, row_count};
-ghost use Rattle.enc_rewriter.specs.Standing.{StandsAt, Weighs, is_known, known_as, weight_of, bodies_before, AreBodiesPlaced, AreKnown};
+ghost use Rattle.enc_plain.specs.Sound.{row_count};
+ghost use Rattle.enc_rewriter.specs.Standing.{StandsAt, Weighs, is_known, known_as, weight_of, bodies_before, AreBodiesPlaced, AreKnown, MayBeWritten, MayPlaceBodies, ComesNext, BodiesStand};
 ghost use Rattle.enc_rewriter.specs.Placed.{IsBodyPlaced};
-ghost use Rattle.enc_rewriter.specs.Values.{KeepValues, no_starts, texts_named};
 ghost use Rattle.enc_rewriter.specs.Weight.{bodies_weight};
 ghost use Rattle.enc_base.specs.Tables.{method_def};
 
@@ -117,17 +115,8 @@ pub(crate) fn push_body<V: ModuleView>(
     heaps: &mut HeapBuilder,
     out: &mut Vec<u8>,
 ) -> Result<u32, AllocError>
-    requires sound { body_is_sound (row_count (V.meaning view.now)) (body_of (V.users view.now) (code_seen body.now))
-        ≡ true }
-    requires nil { nil_or body.now.locals ≡ body.now.locals }
-    requires rows { body.now.locals.row < 2 ^ 24 }
-    requires starts { heaps.old.starts ≡ no_starts }
-    requires kept { list_all (is_kept heaps.old.users)
-        (texts_named (body_of (V.users view.now) (code_seen body.now)).code) ≡ true }
-    requires few { length body.now.code.now < 2 ^ 32 }
-    requires near { length out.old.items < 2 ^ 31 + 4096 }
-    requires room { length out.old.items + length body.now.code.now + 28 * length
-        (clauses_of body.now.sections.now) + 32 < 2 ^ 32 }
+    requires { MayBeWritten (V.meaning view.now) (V.users view.now) heaps.old
+        (code_seen body.now) (length out.old.items) }
     ensures stands { IfOk result (λ rva. StandsAt (row_count (V.meaning view.now))
         (user_at (heaps_built heaps.old).users) out.new.items rva (body_of (V.users view.now) (code_seen body.now))) }
     ensures grows { OnOk result ((rest : List ℕ) × (out.new.items ≡ out.old.items ++ rest)) }
@@ -159,6 +148,13 @@ pub(crate) fn push_body<V: ModuleView>(
     }
 }
 
+/// Bodies that are written: the code that has them, and the RVA of the body of each known place.
+#[derive(Drop)]
+struct BodyCode {
+    code: Vec<u8>,
+    known: BTreeMap<u64, u32>,
+}
+
 /// Writes the body of a method behind the code, and answers its RVA, 0 where it has none. Methods
 /// count from 0 here.
 fn push_method<V: ModuleView>(
@@ -168,11 +164,7 @@ fn push_method<V: ModuleView>(
     heaps: &mut HeapBuilder,
     out: &mut Vec<u8>,
 ) -> Result<u32, AllocError>
-    requires sound { IsSound (V.meaning view.now) }
-    requires kept { KeepValues (V.meaning view.now) heaps.old }
-    requires row { n < row_count (V.meaning view.now) method_def }
-    requires light { bodies_weight (V.meaning view.now) < 2 ^ 31 }
-    requires weighs { Weighs (bodies_before (V.meaning view.now) n) (length out.old.items) }
+    requires { ComesNext (V.meaning view.now) heaps.old n (length out.old.items) }
     ensures placed { IfOk result (λ rva. IsBodyPlaced (V.meaning view.now)
         (user_at (heaps_built heaps.old).users) out.new.items n rva) }
     ensures grows { OnOk result ((rest : List ℕ) × (out.new.items ≡ out.old.items ++ rest)) }
@@ -196,66 +188,68 @@ fn place_method<V: ModuleView>(
     view: &V,
     n: u32,
     heaps: &mut HeapBuilder,
-    known: &mut BTreeMap<u64, u32>,
-    out: &mut Vec<u8>,
+    to: &mut BodyCode,
 ) -> Result<u32, AllocError>
-    requires sound { IsSound (V.meaning view.now) }
-    requires kept { KeepValues (V.meaning view.now) heaps.old }
-    requires row { n < row_count (V.meaning view.now) method_def }
-    requires light { bodies_weight (V.meaning view.now) < 2 ^ 31 }
-    requires weighs { Weighs (bodies_before (V.meaning view.now) n) (length out.old.items) }
-    requires known { AreKnown (V.meaning view.now) (user_at (heaps_built heaps.old).users)
-        (V.places view.now) out.old.items known.old }
-    ensures placed { IfOk result (λ rva. IsBodyPlaced (V.meaning view.now)
-        (user_at (heaps_built heaps.old).users) out.new.items n rva) }
-    ensures grows { OnOk result ((rest : List ℕ) × (out.new.items ≡ out.old.items ++ rest)) }
-    ensures weighs { OnOk result (Weighs (bodies_before (V.meaning view.now) (n + 1)) (length out.new.items)) }
-    ensures known { OnOk result (AreKnown (V.meaning view.now) (user_at (heaps_built heaps.old).users)
-        (V.places view.now) out.new.items known.new) }
+    requires next { ComesNext (V.meaning view.now) heaps.old n (length to.old.code.items) }
+    requires known { AreKnown (V.meaning view.now) (user_at (heaps_built heaps.old).users) (V.places view.now)
+        to.old.code.items to.old.known }
+    ensures placed { IfOk result (λ rva. IsBodyPlaced (V.meaning view.now) (user_at (heaps_built heaps.old).users)
+        to.new.code.items n rva) }
+    ensures grows { OnOk result ((rest : List ℕ) × (to.new.code.items ≡ to.old.code.items ++ rest)) }
+    ensures stand { OnOk result (BodiesStand (V.meaning view.now) (user_at (heaps_built heaps.old).users)
+        (V.places view.now) (n + 1) to.new.code.items to.new.known) }
     ensures same { heaps.new ≡ heaps.old }
 {
     let place = view.code_place(Token {
         table: METHOD_DEF,
         row: n + 1,
     });
-    if let Some(rva) = known.get(&place) {
+    if let Some(rva) = to.known.get(&place) {
         return Ok(*rva);
     }
-    let rva = match push_method(alloc, view, n, heaps, out) {
+    let rva = match push_method(alloc, view, n, heaps, &mut to.code) {
         Ok(rva) => rva,
         Err(fault) => return Err(fault),
     };
-    match known.insert(place, rva) {
+    match to.known.insert(place, rva) {
         Ok(_) => Ok(rva),
         Err(_) => Err(AllocError),
     }
 }
 
-/// Writes the bodies of all methods, and answers the RVA of each. Methods that share a body have it
-/// at one RVA.
+/// The bodies of all methods: the code that has them, and the RVA of each method's, 0 for none.
+#[derive(Drop)]
+pub(crate) struct PlacedBodies {
+    pub(crate) code: Vec<u8>,
+    pub(crate) rvas: Vec<u32>,
+}
+
+/// Writes the bodies of all methods. Methods that share a body have it at one RVA.
 pub(crate) fn place_bodies<V: ModuleView>(
     alloc: Global,
     view: &V,
     heaps: &mut HeapBuilder,
-    out: &mut Vec<u8>,
-) -> Result<Vec<u32>, AllocError>
-    requires sound { IsSound (V.meaning view.now) }
-    requires kept { KeepValues (V.meaning view.now) heaps.old }
-    requires light { bodies_weight (V.meaning view.now) < 2 ^ 31 }
-    requires first { out.old.items ≡ [] }
-    ensures count { IfOk result (λ v. length v.items ≡ row_count (V.meaning view.now) method_def) }
-    ensures placed { IfOk result (λ v. AreBodiesPlaced (V.meaning view.now)
-        (user_at (heaps_built heaps.old).users) out.new.items v.items (row_count (V.meaning view.now) method_def)) }
-    ensures weighs { OnOk result (Weighs (bodies_weight (V.meaning view.now)) (length out.new.items)) }
+) -> Result<PlacedBodies, AllocError>
+    requires { MayPlaceBodies (V.meaning view.now) heaps.old }
+    ensures count { IfOk result (λ b. length b.rvas.items ≡ row_count (V.meaning view.now) method_def) }
+    ensures placed { IfOk result (λ b. AreBodiesPlaced (V.meaning view.now) (user_at (heaps_built heaps.old).users)
+        b.code.items b.rvas.items (row_count (V.meaning view.now) method_def)) }
+    ensures weighs { IfOk result (λ b. Weighs (bodies_weight (V.meaning view.now)) (length b.code.items)) }
     ensures same { heaps.new ≡ heaps.old }
 {
-    let mut bodies = Vec::new(alloc);
-    let mut known = BTreeMap::new(alloc);
+    let mut rvas = Vec::new(alloc);
+    let mut to = BodyCode {
+        code: Vec::new(alloc),
+        known: BTreeMap::new(alloc),
+    };
     for n in 0..view.count(METHOD_DEF) {
-        match place_method(alloc, view, n, heaps, &mut known, out) {
-            Ok(rva) => bodies.push(rva)?,
+        match place_method(alloc, view, n, heaps, &mut to) {
+            Ok(rva) => rvas.push(rva)?,
             Err(fault) => return Err(fault),
         }
     }
-    Ok(bodies)
+    Ok(PlacedBodies {
+        code: to.code,
+        rvas,
+    })
 }

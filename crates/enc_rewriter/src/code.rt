@@ -6,10 +6,11 @@ ghost use Rattle.std.specs.Int.{w32, to_le_bytes};
 ghost use Rattle.enc_il.specs.Seen.{arg_seen, instr_seen};
 ghost use Rattle.enc_meta.specs.Built.{is_kept, heaps_built};
 ghost use Rattle.enc_meta.specs.Heaps.{user_at};
-ghost use Rattle.enc_opcodes.specs.Body.{body_of, code_seen, told};
-ghost use Rattle.enc_opcodes.specs.Instruction.{instr_in, end_of};
+ghost use Rattle.enc_opcodes.specs.Body.{code_seen, told};
+ghost use Rattle.enc_opcodes.specs.Instruction.{instr_in};
 ghost use Rattle.enc_rewriter.specs.Copied.{SaysSame, IsCopied, IsNamed};
-ghost use Rattle.enc_rewriter.specs.Values.{no_starts, text_named, texts_named, units_told};
+ghost use Rattle.enc_rewriter.specs.Standing.{MayBeCopied};
+ghost use Rattle.enc_rewriter.specs.Values.{no_starts, text_named, units_told};
 
 use crate::kept::user_offset;
 use crate::users::units_at;
@@ -20,54 +21,60 @@ use enc_opcodes::{Arg, CodeRef, Instr};
 use enc_plain::ModuleView;
 use std::alloc::{AllocError, Global};
 
+/// Where an instruction stands in a code: from one offset up to another.
+#[derive(Drop)]
+struct Span<'a> {
+    code: &'a [u8],
+    at: u32,
+    end: u32,
+}
+
 /// Appends an instruction as it stands.
-fn push_plain(code: &[u8], at: u32, end: u32, out: &mut Vec<u8>) -> Result<(), AllocError>
-    requires order { at ≤ end }
-    requires within { end ≤ length code.now }
-    ensures { OnOk result (out.new.items ≡ out.old.items ++ take (end - at) (drop at code.now)) }
+fn push_plain(span: &Span<'_>, out: &mut Vec<u8>) -> Result<(), AllocError>
+    requires order { span.now.at ≤ span.now.end }
+    requires within { span.now.end ≤ length span.now.code.now }
+    ensures { OnOk result (out.new.items ≡ out.old.items
+        ++ take (span.now.end - span.now.at) (drop span.now.at span.now.code.now)) }
 {
-    out.extend_from_slice(&code[at as usize..end as usize])
+    out.extend_from_slice(&span.code[span.at as usize..span.end as usize])
 }
 
 /// Appends an instruction with the token of the user text at an offset as its last four bytes.
-fn push_named(
-    code: &[u8],
-    at: u32,
-    end: u32,
-    offset: u32,
-    out: &mut Vec<u8>,
-) -> Result<(), AllocError>
-    requires order { at + 4 < end }
-    requires within { end ≤ length code.now }
+fn push_named(span: &Span<'_>, offset: u32, out: &mut Vec<u8>) -> Result<(), AllocError>
+    requires order { span.now.at + 4 < span.now.end }
+    requires within { span.now.end ≤ length span.now.code.now }
     requires low { offset < 2 ^ 24 }
-    ensures { OnOk result (out.new.items ≡ (out.old.items ++ take (end - 4 - at) (drop at code.now)) ++ to_le_bytes w32
-        (0x70000000 + offset)) }
+    ensures { OnOk result (out.new.items ≡ (out.old.items
+        ++ take (span.now.end - 4 - span.now.at) (drop span.now.at span.now.code.now))
+        ++ to_le_bytes w32 (0x70000000 + offset)) }
 {
-    push_plain(code, at, end - 4, out)?;
+    let front = Span {
+        code: span.code,
+        at: span.at,
+        end: span.end - 4,
+    };
+    push_plain(&front, out)?;
     push_word(0x7000_0000 + offset, out)
 }
 
 /// Appends an instruction that names the user text at an offset, with its token in the new heap.
-
 fn push_text<V: ModuleView>(
     view: &V,
-    code: &[u8],
-    at: u32,
-    end: u32,
+    span: &Span<'_>,
     offset: u32,
     heaps: &mut HeapBuilder,
     out: &mut Vec<u8>,
 ) -> Result<(), AllocError>
     requires starts { heaps.old.starts ≡ no_starts }
-    requires order { at + 4 < end }
-    requires within { end ≤ length code.now }
+    requires order { span.now.at + 4 < span.now.end }
+    requires within { span.now.end ≤ length span.now.code.now }
     requires kept { is_kept heaps.old.users (units_told (V.users view.now offset)) ≡ true }
-    ensures named { OnOk result (IsNamed (V.users view.now)
-        (user_at (heaps_built heaps.old).users) code.now at end offset out.old.items out.new.items) }
+    ensures named { OnOk result (IsNamed (V.users view.now) (user_at (heaps_built heaps.old).users)
+        span.now.code.now span.now.at span.now.end offset out.old.items out.new.items) }
     ensures same { heaps.new ≡ heaps.old }
 {
     match user_offset(heaps, units_at(view, offset)) {
-        Ok(there) => push_named(code, at, end, there, out),
+        Ok(there) => push_named(span, there, out),
         Err(fault) => Err(fault),
     }
 }
@@ -76,26 +83,24 @@ fn push_text<V: ModuleView>(
 #[tactic(auto, using(crate::proofs::OwnBytes::user_room, enc_opcodes::proofs::Instructions::instr_ends))]
 fn push_instr<V: ModuleView>(
     view: &V,
-    code: &CodeRef<'_>,
-    at: u32,
-    end: u32,
+    span: &Span<'_>,
     instr: &Instr<'_>,
     heaps: &mut HeapBuilder,
     out: &mut Vec<u8>,
 ) -> Result<(), AllocError>
     requires starts { heaps.old.starts ≡ no_starts }
-    requires read { instr_in code.now.code.now at ≡ Some (instr_seen (instr.now, end)) }
+    requires read { instr_in span.now.code.now span.now.at ≡ Some (instr_seen (instr.now, span.now.end)) }
     requires kept { list_all (is_kept heaps.old.users)
-        (text_named (told (V.users view.now) (arg_seen end instr.now.arg))) ≡ true }
-    requires copied { IsCopied (V.users view.now)
-        (user_at (heaps_built heaps.old).users) code.now.code.now out.old.items at }
-    ensures copied { OnOk result (IsCopied (V.users view.now)
-        (user_at (heaps_built heaps.old).users) code.now.code.now out.new.items end) }
+        (text_named (told (V.users view.now) (arg_seen span.now.end instr.now.arg))) ≡ true }
+    requires copied { IsCopied (V.users view.now) (user_at (heaps_built heaps.old).users)
+        span.now.code.now out.old.items span.now.at }
+    ensures copied { OnOk result (IsCopied (V.users view.now) (user_at (heaps_built heaps.old).users)
+        span.now.code.now out.new.items span.now.end) }
     ensures same { heaps.new ≡ heaps.old }
 {
     match instr.arg {
-        Arg::User(offset) => push_text(view, code.code, at, end, offset, heaps, out),
-        _ => push_plain(code.code, at, end, out),
+        Arg::User(offset) => push_text(view, span, offset, heaps, out),
+        _ => push_plain(span, out),
     }
 }
 
@@ -106,11 +111,7 @@ pub(crate) fn patched<V: ModuleView>(
     code: &CodeRef<'_>,
     heaps: &mut HeapBuilder,
 ) -> Result<Vec<u8>, AllocError>
-    requires few { length code.now.code.now < 2 ^ 32 }
-    requires starts { heaps.old.starts ≡ no_starts }
-    requires whole { end_of code.now.code.now 0 ≡ length code.now.code.now }
-    requires kept { list_all (is_kept heaps.old.users)
-        (texts_named (body_of (V.users view.now) (code_seen code.now)).code) ≡ true }
+    requires { MayBeCopied (V.users view.now) heaps.old (code_seen code.now) }
     ensures says { IfOk result (λ v. SaysSame (V.users view.now)
         (user_at (heaps_built heaps.old).users) code.now.code.now v.items 0) }
     ensures size { IfOk result (λ v. length v.items ≡ length code.now.code.now) }
@@ -119,7 +120,12 @@ pub(crate) fn patched<V: ModuleView>(
     let mut out = Vec::new(alloc);
     let mut at = 0;
     while let Some((instr, end)) = instr_at(code, at) {
-        match push_instr(view, code, at, end, &instr, heaps, &mut out) {
+        let span = Span {
+            code: code.code,
+            at,
+            end,
+        };
+        match push_instr(view, &span, &instr, heaps, &mut out) {
             Ok(()) => {}
             Err(fault) => return Err(fault),
         }

@@ -3,7 +3,7 @@ ghost use Rattle.std.specs.Prelude.{◌≡◌, ◌+◌, ◌≤◌, ◌<◌, ◌^
 ghost use Rattle.enc_base.specs.Numbers.{spelled};
 ghost use Rattle.std.specs.List.{list_all};
 ghost use Rattle.enc_rewriter.specs.Values.{with_all, no_starts, heap_limit, heap_of, IsPast};
-ghost use Rattle.enc_rewriter.specs.Distinct.{borrowed, written_in, may_be_listed, with_borrowed, with_list, bytes_of, RefusesIn};
+ghost use Rattle.enc_rewriter.specs.Distinct.{borrowed, written_in, may_be_listed, with_borrowed, with_list, bytes_of, HasRoomFor, RefusesIn};
 ghost use Rattle.enc_rewriter.specs.declared.pass.Pass.TheVariants.{Texts, Users, Blobs};
 
 use crate::pass::Pass;
@@ -115,12 +115,9 @@ impl<'a> Distinct<'a> {
         Err(BuildFault::TooLarge(self.pass.stream()))
     }
 
-    /// Adds a value that isn't empty.
+    /// Adds a value that isn't empty, with which the values take so many bytes.
     fn put(&mut self, value: &'a [u8], bytes: u64) -> Result<(), BuildFault>
-        requires some { 0 < length value.now }
-        requires fit { may_be_listed self.old.pass value.now ≡ true }
-        requires bytes { bytes ≡ bytes_of self.old.pass self.old.values + length (written_in self.old.pass value.now) }
-        requires within { bytes < heap_limit self.old.pass }
+        requires { HasRoomFor self.old value.now bytes }
         ensures added { OnOk result (self.new ≡ with_borrowed self.old value.now) }
         ensures refused { RefusesIn result self.old value.now }
         ensures err { OnErr result (self.new ≡ self.old) }

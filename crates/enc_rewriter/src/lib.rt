@@ -17,6 +17,7 @@ mod pass;
 mod placed;
 mod ptrs;
 mod references;
+mod row_column;
 mod rows;
 mod runs;
 mod users;

@@ -1,21 +1,21 @@
 //! The numbers in the columns of a row that is written (ECMA-335 II.22).
-ghost use Rattle.std.specs.Prelude.{◌≡◌, ◌<◌, ◌^◌, false, Some, IsTrue, IfOk, length};
+ghost use Rattle.std.specs.Prelude.{◌≡◌, ◌<◌, ◌^◌, false, Some, IsTrue, IfOk};
 ghost use Rattle.enc_meta.specs.Built.{heaps_built};
 ghost use Rattle.enc_meta.specs.Heaps.{Counted};
 ghost use Rattle.enc_plain.specs.Cell.{is_body, is_field, kind_of, numbers, kind_in, number};
 ghost use Rattle.enc_plain.specs.Module.{has_row, cell_of};
 ghost use Rattle.enc_plain.specs.Reading.{cell_read};
-ghost use Rattle.enc_plain.specs.Sound.{IsSound, row_count};
+ghost use Rattle.enc_plain.specs.Sound.{IsSound};
 ghost use Rattle.enc_schema.specs.Schema.{columns_in, column_in};
-ghost use Rattle.enc_base.specs.Tables.{field_rva, method_def};
 ghost use Rattle.enc_schema.specs.declared.column.Column.TheVariants.{Text, Blob, Guid};
-ghost use Rattle.enc_rewriter.specs.Numbers.{reading_by, PlainNumberSays, NumberSays, AreRuns};
+ghost use Rattle.enc_rewriter.specs.Numbers.{reading_by, PlainNumberSays, NumberSays, AreSources, AreReady, IsPlainColumn};
 ghost use Rattle.enc_rewriter.specs.Values.{KeepValues};
 
 use crate::kept::{blob_offset, guid_number, text_offset};
 use crate::pass::text_in;
 use crate::placed::PlacedCode;
 use crate::references::{coded_number, index_number};
+use crate::row_column::RowColumn;
 use crate::runs::{Runs, run_number};
 use enc_base::Token;
 use enc_base::tables::{FIELD_RVA, METHOD_DEF};
@@ -98,65 +98,61 @@ fn number_in<V: ModuleView>(view: &V, row: Token, i: u8, column: Column) -> u32
     view.num(row, i)
 }
 
+/// What the numbers of a module's rows are found by, heaps aside: the module, where its runs of
+/// children begin, and where its bodies and fields are placed.
+#[derive(Drop)]
+pub(crate) struct Numbering<'a, V: ModuleView> {
+    pub(crate) view: &'a V,
+    pub(crate) runs: &'a Runs,
+    pub(crate) placed: &'a PlacedCode,
+}
+
 /// The number in a column that is no place of bytes.
 fn plain_number<V: ModuleView>(
-    view: &V,
+    by: &Numbering<'_, V>,
     heaps: &mut HeapBuilder,
-    runs: &Runs,
-    row: Token,
-    i: u8,
-    column: Column,
+    at: RowColumn,
 ) -> Result<u32, AllocError>
-    requires sound { IsSound (V.meaning view.now) }
-    requires kept { KeepValues (V.meaning view.now) heaps.old }
-    requires runs { AreRuns (V.meaning view.now) runs.now }
-    requires row { IsTrue (has_row (V.meaning view.now) row) }
-    requires column { column_in row.table i ≡ Some column }
-    requires body { is_body row.table i ≡ false }
-    requires field { is_field row.table i ≡ false }
-    ensures says { IfOk result (λ x. PlainNumberSays (V.meaning view.now) (heaps_built heaps.old) row i column x) }
+    requires sources { AreSources (V.meaning by.now.view.now) heaps.old by.now.runs.now }
+    requires row { IsTrue (has_row (V.meaning by.now.view.now) at.row) }
+    requires column { column_in at.row.table at.i ≡ Some at.column }
+    requires plain { IsPlainColumn at.row.table at.i }
+    ensures says { IfOk result (λ x. PlainNumberSays (V.meaning by.now.view.now) (heaps_built heaps.old)
+        at.row at.i at.column x) }
     ensures same { heaps.new ≡ heaps.old }
 {
-    match column {
-        Column::Num8 => Ok(number_in(view, row, i, Column::Num8)),
-        Column::Num16 => Ok(number_in(view, row, i, Column::Num16)),
-        Column::Num32 => Ok(number_in(view, row, i, Column::Num32)),
-        Column::Text => text_number(view, heaps, row, i),
-        Column::Blob => blob_number(view, heaps, row, i),
-        Column::Guid => guid_number_in(view, heaps, row, i),
-        Column::Index(table) => Ok(index_number(view, row, i, table)),
-        Column::Coded(kind) => Ok(coded_number(view, row, i, kind)),
-        Column::Run(child) => Ok(run_number(view, runs, row, i, child)),
+    match at.column {
+        Column::Num8 => Ok(number_in(by.view, at.row, at.i, Column::Num8)),
+        Column::Num16 => Ok(number_in(by.view, at.row, at.i, Column::Num16)),
+        Column::Num32 => Ok(number_in(by.view, at.row, at.i, Column::Num32)),
+        Column::Text => text_number(by.view, heaps, at.row, at.i),
+        Column::Blob => blob_number(by.view, heaps, at.row, at.i),
+        Column::Guid => guid_number_in(by.view, heaps, at.row, at.i),
+        Column::Index(table) => Ok(index_number(by.view, at.row, at.i, table)),
+        Column::Coded(kind) => Ok(coded_number(by.view, at.row, at.i, kind)),
+        Column::Run(child) => Ok(run_number(by.view, by.runs, at.row, at.i, child)),
     }
 }
 
 /// The number in a column.
 #[tactic(auto, using(enc_plain::proofs::KindsOf::row_bounds))]
 pub(crate) fn number_at<V: ModuleView>(
-    view: &V,
+    by: &Numbering<'_, V>,
     heaps: &mut HeapBuilder,
-    runs: &Runs,
-    placed: &PlacedCode,
-    row: Token,
-    i: u8,
-    column: Column,
+    at: RowColumn,
 ) -> Result<u32, AllocError>
-    requires sound { IsSound (V.meaning view.now) }
-    requires kept { KeepValues (V.meaning view.now) heaps.old }
-    requires runs { AreRuns (V.meaning view.now) runs.now }
-    requires methods { length placed.now.bodies ≡ row_count (V.meaning view.now) method_def }
-    requires fields { length placed.now.fields ≡ row_count (V.meaning view.now) field_rva }
-    requires row { IsTrue (has_row (V.meaning view.now) row) }
-    requires column { column_in row.table i ≡ Some column }
-    ensures says { IfOk result (λ x. NumberSays (V.meaning view.now)
-        (heaps_built heaps.old) placed.now row i column x) }
+    requires ready { AreReady (V.meaning by.now.view.now) heaps.old by.now.runs.now by.now.placed.now }
+    requires row { IsTrue (has_row (V.meaning by.now.view.now) at.row) }
+    requires column { column_in at.row.table at.i ≡ Some at.column }
+    ensures says { IfOk result (λ x. NumberSays (V.meaning by.now.view.now) (heaps_built heaps.old) by.now.placed.now
+        at.row at.i at.column x) }
     ensures same { heaps.new ≡ heaps.old }
 {
-    if row.table == METHOD_DEF && i == 0 {
-        return Ok(placed.body(row.row as usize - 1));
+    if at.row.table == METHOD_DEF && at.i == 0 {
+        return Ok(by.placed.body(at.row.row as usize - 1));
     }
-    if row.table == FIELD_RVA && i == 0 {
-        return Ok(placed.field(row.row as usize - 1));
+    if at.row.table == FIELD_RVA && at.i == 0 {
+        return Ok(by.placed.field(at.row.row as usize - 1));
     }
-    plain_number(view, heaps, runs, row, i, column)
+    plain_number(by, heaps, at)
 }

@@ -1,15 +1,17 @@
 //! The parts of an image that hold a module.
-ghost use Rattle.std.specs.Prelude.{◌≡◌, ◌+◌, ◌<◌, ◌≤◌, ◌^◌, length, IfOk, if◌then◌else◌};
+ghost use Rattle.std.specs.Prelude.{◌≡◌, ◌+◌, ◌<◌, ◌≤◌, length, IfOk, if◌then◌else◌};
 ghost use Rattle.enc_emit.specs.declared.root_form.RootForm.TheVariants as form;
 ghost use Rattle.enc_plain.specs.Sound.{IsSound};
 ghost use Rattle.enc_rewriter.specs.Limits.{image_limit, TellsLimit};
 ghost use Rattle.enc_rewriter.specs.Rewritten.{HoldModule, root_form};
+ghost use Rattle.enc_rewriter.specs.Standing.{MayPlaceCode};
 ghost use Rattle.enc_rewriter.specs.Values.{no_starts, heaps_for, KeepValues};
 ghost use Rattle.enc_rewriter.specs.Weight.{bodies_weight, fields_weight, module_weight as weight_of_module, most_weight};
 
 use crate::fault::RewriteFault;
 use crate::gathering::gather;
 use crate::module_values::ModuleValues;
+use crate::numbers::Numbering;
 use crate::placed::{PlacedCode, placed_code};
 use crate::rows::push_all;
 use crate::runs::{all_runs, needs_jtd};
@@ -48,9 +50,7 @@ pub(crate) fn parts_with<V: ModuleView>(
     view: &V,
     heaps: HeapBuilder,
 ) -> Result<ModuleParts, AllocError>
-    requires sound { IsSound (V.meaning view.now) }
-    requires kept { KeepValues (V.meaning view.now) heaps }
-    requires weight { bodies_weight (V.meaning view.now) + fields_weight (V.meaning view.now) < 2 ^ 31 }
+    requires { MayPlaceCode (V.meaning view.now) heaps }
     ensures held { IfOk result (λ p. HoldModule (V.meaning view.now) p.heaps p.placed p.tables) }
     ensures heaps { IfOk result (λ p. p.heaps ≡ heaps) }
     ensures code { IfOk result (λ p. length p.placed.code ≤ bodies_weight (V.meaning view.now) + fields_weight
@@ -62,7 +62,12 @@ pub(crate) fn parts_with<V: ModuleView>(
     let runs = all_runs(alloc, view)?;
     let form = form_with(needs_jtd(view, &runs));
     let mut tables = TableBuilder::begin(alloc);
-    push_all(alloc, view, &mut heaps, &runs, &placed, &mut tables)?;
+    let by = Numbering {
+        view,
+        runs: &runs,
+        placed: &placed,
+    };
+    push_all(alloc, &by, &mut heaps, &mut tables)?;
     heaps.laws();
     tables.laws();
     Ok(ModuleParts {

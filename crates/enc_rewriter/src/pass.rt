@@ -8,10 +8,11 @@ ghost use Rattle.enc_plain.specs.Sound.{IsSound, row_count};
 ghost use Rattle.enc_schema.specs.Schema.{columns_in, column_in};
 ghost use Rattle.enc_base.specs.Tables.{method_def};
 ghost use Rattle.enc_rewriter.specs.Standing.{AreGathered};
-ghost use Rattle.enc_rewriter.specs.Values.{gathers as does_gather, values_at, values_of_row, values_of_table, all_values, with_all, IsPast};
+ghost use Rattle.enc_rewriter.specs.Values.{gathers as does_gather, values_at, values_of_row, values_of_table, all_values, with_all, IsPast, IsSoundRow};
 ghost use Rattle.enc_rewriter.specs.declared.pass.Pass.TheVariants.{Users};
 
 use crate::module_values::ModuleValues;
+use crate::row_column::RowColumn;
 use crate::users::add_named;
 use enc_base::Token;
 use enc_base::tables::METHOD_DEF;
@@ -108,24 +109,23 @@ fn gathers(pass: Pass, table: u8, i: u8, column: Column) -> bool
 fn add_gathered<'a, V: ModuleView>(
     view: &'a V,
     pass: Pass,
-    row: Token,
-    i: u8,
+    at: RowColumn,
     seen: &mut BTreeSet<u64>,
     heaps: &mut ModuleValues<'a>,
 ) -> Result<(), BuildFault>
-    requires sound { IsSound (V.meaning view.now) }
-    requires row { IsTrue (has_row (V.meaning view.now) row) }
+    requires row { IsSoundRow (V.meaning view.now) at.row }
     requires seen { AreGathered (V.places view.now) heaps.old seen.old }
-    requires gathers { IsTrue (does_gather pass (kind_in row.table i)) }
-    ensures filled { OnOk result (heaps.new ≡ with_all pass heaps.old (values_at pass (V.meaning view.now) row i)) }
-    ensures past { IsPast result pass (with_all pass heaps.old (values_at pass (V.meaning view.now) row i)) }
+    requires gathers { IsTrue (does_gather pass (kind_in at.row.table at.i)) }
+    ensures filled { OnOk result (heaps.new ≡ with_all pass heaps.old
+        (values_at pass (V.meaning view.now) at.row at.i)) }
+    ensures past { IsPast result pass (with_all pass heaps.old (values_at pass (V.meaning view.now) at.row at.i)) }
     ensures seen { OnOk result (AreGathered (V.places view.now) heaps.new seen.new) }
 {
     match pass {
-        Pass::Texts => heaps.add_text(text_in(view, row, i)),
-        Pass::Users => add_users(view, row, seen, heaps),
-        Pass::Blobs => heaps.add_blob(view.blob(row, i)),
-        Pass::Guids => heaps.add_guid(view.guid(row, i)),
+        Pass::Texts => heaps.add_text(text_in(view, at.row, at.i)),
+        Pass::Users => add_users(view, at.row, seen, heaps),
+        Pass::Blobs => heaps.add_blob(view.blob(at.row, at.i)),
+        Pass::Guids => heaps.add_guid(view.guid(at.row, at.i)),
     }
 }
 
@@ -134,24 +134,22 @@ fn add_gathered<'a, V: ModuleView>(
 fn add_cell<'a, V: ModuleView>(
     view: &'a V,
     pass: Pass,
-    row: Token,
-    i: u8,
-    column: Column,
+    at: RowColumn,
     seen: &mut BTreeSet<u64>,
     heaps: &mut ModuleValues<'a>,
 ) -> Result<(), BuildFault>
-    requires sound { IsSound (V.meaning view.now) }
-    requires row { IsTrue (has_row (V.meaning view.now) row) }
-    requires column { column_in row.table i ≡ Some column }
+    requires row { IsSoundRow (V.meaning view.now) at.row }
+    requires column { column_in at.row.table at.i ≡ Some at.column }
     requires seen { AreGathered (V.places view.now) heaps.old seen.old }
-    ensures filled { OnOk result (heaps.new ≡ with_all pass heaps.old (values_at pass (V.meaning view.now) row i)) }
-    ensures past { IsPast result pass (with_all pass heaps.old (values_at pass (V.meaning view.now) row i)) }
+    ensures filled { OnOk result (heaps.new ≡ with_all pass heaps.old
+        (values_at pass (V.meaning view.now) at.row at.i)) }
+    ensures past { IsPast result pass (with_all pass heaps.old (values_at pass (V.meaning view.now) at.row at.i)) }
     ensures seen { OnOk result (AreGathered (V.places view.now) heaps.new seen.new) }
 {
-    if !gathers(pass, row.table, i, column) {
+    if !gathers(pass, at.row.table, at.i, at.column) {
         return Ok(());
     }
-    add_gathered(view, pass, row, i, seen, heaps)
+    add_gathered(view, pass, at, seen, heaps)
 }
 
 /// Adds what a row has for a heap.
@@ -172,7 +170,12 @@ fn add_row<'a, V: ModuleView>(
 {
     let columns = columns_of(row.table);
     for i in 0..columns.len() {
-        match add_cell(view, pass, row, i as u8, columns[i], seen, heaps) {
+        let at = RowColumn {
+            row,
+            i: i as u8,
+            column: columns[i],
+        };
+        match add_cell(view, pass, at, seen, heaps) {
             Ok(()) => {}
             Err(fault) => return Err(fault),
         }

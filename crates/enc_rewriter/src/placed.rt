@@ -2,12 +2,11 @@
 ghost use Rattle.std.specs.Prelude.{◌≡◌, ◌+◌, ◌<◌, ◌≤◌, ◌^◌, ℕ, length, slice_index, IfOk};
 ghost use Rattle.enc_meta.specs.Built.{heaps_built};
 ghost use Rattle.enc_meta.specs.Heaps.{user_at};
-ghost use Rattle.enc_plain.specs.Sound.{IsSound};
 ghost use Rattle.enc_rewriter.specs.Placed.{IsPlaced};
-ghost use Rattle.enc_rewriter.specs.Values.{KeepValues};
+ghost use Rattle.enc_rewriter.specs.Standing.{MayPlaceCode};
 ghost use Rattle.enc_rewriter.specs.Weight.{bodies_weight, fields_weight};
 
-use crate::bodies::place_bodies;
+use crate::bodies::{PlacedBodies, place_bodies};
 use crate::fields::place_fields;
 use enc_meta::HeapBuilder;
 use enc_plain::ModuleView;
@@ -75,19 +74,20 @@ pub(crate) fn placed_code<V: ModuleView>(
     view: &V,
     heaps: &mut HeapBuilder,
 ) -> Result<PlacedCode, AllocError>
-    requires sound { IsSound (V.meaning view.now) }
-    requires kept { KeepValues (V.meaning view.now) heaps.old }
-    requires weight { bodies_weight (V.meaning view.now) + fields_weight (V.meaning view.now) < 2 ^ 31 }
+    requires { MayPlaceCode (V.meaning view.now) heaps.old }
     ensures placed { IfOk result (λ p. IsPlaced (V.meaning view.now) (user_at (heaps_built heaps.old).users) p) }
     ensures size { IfOk result (λ p. length p.code ≤ bodies_weight (V.meaning view.now) + fields_weight
         (V.meaning view.now) + 4096) }
     ensures same { heaps.new ≡ heaps.old }
 {
-    let mut code = Vec::new(alloc);
-    let bodies = match place_bodies(alloc, view, heaps, &mut code) {
-        Ok(bodies) => bodies,
+    let placed = match place_bodies(alloc, view, heaps) {
+        Ok(placed) => placed,
         Err(fault) => return Err(fault),
     };
+    let PlacedBodies {
+        mut code,
+        rvas: bodies,
+    } = placed;
     let fields = match place_fields(alloc, view, &mut code) {
         Ok(fields) => fields,
         Err(fault) => return Err(fault),

@@ -8,38 +8,34 @@ ghost use Rattle.enc_schema.specs.Schema.{column_in};
 ghost use Rattle.enc_rows.specs.Written.{rows_at, count_at};
 ghost use Rattle.enc_rewriter.specs.Numbers.{FrontSays, RowSays, RowsSay, TableSays, TablesSay, AreReady, KeepOthers, HoldRows};
 
-use crate::numbers::number_at;
-use crate::placed::PlacedCode;
+use crate::numbers::{Numbering, number_at};
 use crate::ptrs::push_all_ptrs;
-use crate::runs::Runs;
+use crate::row_column::RowColumn;
 use enc_base::Token;
 use enc_meta::HeapBuilder;
 use enc_plain::ModuleView;
 use enc_rows::TableBuilder;
-use enc_schema::{Column, columns_of};
+use enc_schema::columns_of;
 use std::alloc::{AllocError, Global};
 
 /// Adds the number in the next column of a row.
 #[tactic(auto, using(crate::proofs::RowsPushed::more_says))]
 fn push_number<V: ModuleView>(
-    view: &V,
+    by: &Numbering<'_, V>,
     heaps: &mut HeapBuilder,
-    runs: &Runs,
-    placed: &PlacedCode,
-    row: Token,
-    i: u8,
-    column: Column,
+    at: RowColumn,
     cells: &mut Vec<u32>,
 ) -> Result<(), AllocError>
-    requires ready { AreReady (V.meaning view.now) heaps.old runs.now placed.now }
-    requires row { IsTrue (has_row (V.meaning view.now) row) }
-    requires column { column_in row.table i ≡ Some column }
-    requires so_far { FrontSays (V.meaning view.now) (heaps_built heaps.old) placed.now row i cells.old.items }
-    ensures says { OnOk result (FrontSays (V.meaning view.now) (heaps_built heaps.old) placed.now row
-        (i + 1) cells.new.items) }
+    requires ready { AreReady (V.meaning by.now.view.now) heaps.old by.now.runs.now by.now.placed.now }
+    requires row { IsTrue (has_row (V.meaning by.now.view.now) at.row) }
+    requires column { column_in at.row.table at.i ≡ Some at.column }
+    requires so_far { FrontSays (V.meaning by.now.view.now) (heaps_built heaps.old) by.now.placed.now
+        at.row at.i cells.old.items }
+    ensures says { OnOk result (FrontSays (V.meaning by.now.view.now) (heaps_built heaps.old) by.now.placed.now
+        at.row (at.i + 1) cells.new.items) }
     ensures same { heaps.new ≡ heaps.old }
 {
-    let number = number_at(view, heaps, runs, placed, row, i, column)?;
+    let number = number_at(by, heaps, at)?;
     cells.push(number)?;
     Ok(())
 }
@@ -48,24 +44,25 @@ fn push_number<V: ModuleView>(
 #[tactic(auto, using(crate::proofs::RowsPushed::none_says))]
 fn row_numbers<V: ModuleView>(
     alloc: Global,
-    view: &V,
+    by: &Numbering<'_, V>,
     heaps: &mut HeapBuilder,
-    runs: &Runs,
-    placed: &PlacedCode,
     row: Token,
 ) -> Result<Vec<u32>, AllocError>
-    requires ready { AreReady (V.meaning view.now) heaps.old runs.now placed.now }
-    requires row { IsTrue (has_row (V.meaning view.now) row) }
-    ensures says { IfOk result (λ cells. RowSays (V.meaning view.now)
-        (heaps_built heaps.old) placed.now row cells.items) }
+    requires ready { AreReady (V.meaning by.now.view.now) heaps.old by.now.runs.now by.now.placed.now }
+    requires row { IsTrue (has_row (V.meaning by.now.view.now) row) }
+    ensures says { IfOk result (λ cells. RowSays (V.meaning by.now.view.now) (heaps_built heaps.old) by.now.placed.now
+        row cells.items) }
     ensures same { heaps.new ≡ heaps.old }
 {
     let columns = columns_of(row.table);
     let mut cells = Vec::new(alloc);
     for i in 0..columns.len() {
-        push_number(
-            view, heaps, runs, placed, row, i as u8, columns[i], &mut cells,
-        )?;
+        let at = RowColumn {
+            row,
+            i: i as u8,
+            column: columns[i],
+        };
+        push_number(by, heaps, at, &mut cells)?;
     }
     Ok(cells)
 }
@@ -74,23 +71,21 @@ fn row_numbers<V: ModuleView>(
 #[tactic(auto, using(crate::proofs::RowsPushed::push_row_steps))]
 fn push_row<V: ModuleView>(
     alloc: Global,
-    view: &V,
+    by: &Numbering<'_, V>,
     heaps: &mut HeapBuilder,
-    runs: &Runs,
-    placed: &PlacedCode,
     row: Token,
     tables: &mut TableBuilder,
 ) -> Result<(), AllocError>
-    requires ready { AreReady (V.meaning view.now) heaps.old runs.now placed.now }
-    requires row { IsTrue (has_row (V.meaning view.now) row) }
-    requires so_far { RowsSay (V.meaning view.now) (heaps_built heaps.old) placed.now row.table (row.row - 1)
-        (rows_at tables.old row.table) }
-    ensures says { OnOk result (RowsSay (V.meaning view.now) (heaps_built heaps.old) placed.now row.table row.row
-        (rows_at tables.new row.table)) }
+    requires ready { AreReady (V.meaning by.now.view.now) heaps.old by.now.runs.now by.now.placed.now }
+    requires row { IsTrue (has_row (V.meaning by.now.view.now) row) }
+    requires so_far { RowsSay (V.meaning by.now.view.now) (heaps_built heaps.old) by.now.placed.now
+        row.table (row.row - 1) (rows_at tables.old row.table) }
+    ensures says { OnOk result (RowsSay (V.meaning by.now.view.now) (heaps_built heaps.old) by.now.placed.now
+        row.table row.row (rows_at tables.new row.table)) }
     ensures others { OnOk result (KeepOthers row.table tables.old tables.new) }
     ensures same { heaps.new ≡ heaps.old }
 {
-    let cells = row_numbers(alloc, view, heaps, runs, placed, row)?;
+    let cells = row_numbers(alloc, by, heaps, row)?;
     tables.push(row.table, &cells)?;
     Ok(())
 }
@@ -99,30 +94,20 @@ fn push_row<V: ModuleView>(
 #[tactic(auto, using(crate::proofs::RowsPushed::no_row, crate::proofs::Gathers::row_there))]
 fn push_table<V: ModuleView>(
     alloc: Global,
-    view: &V,
+    by: &Numbering<'_, V>,
     heaps: &mut HeapBuilder,
-    runs: &Runs,
-    placed: &PlacedCode,
     table: u8,
     tables: &mut TableBuilder,
 ) -> Result<(), AllocError>
-    requires ready { AreReady (V.meaning view.now) heaps.old runs.now placed.now }
+    requires ready { AreReady (V.meaning by.now.view.now) heaps.old by.now.runs.now by.now.placed.now }
     requires none { rows_at tables.old table ≡ [] }
-    ensures says { OnOk result (TableSays (V.meaning view.now) (heaps_built heaps.old) placed.now table
-        (rows_at tables.new table)) }
+    ensures says { OnOk result (TableSays (V.meaning by.now.view.now) (heaps_built heaps.old) by.now.placed.now
+        table (rows_at tables.new table)) }
     ensures others { OnOk result (KeepOthers table tables.old tables.new) }
     ensures same { heaps.new ≡ heaps.old }
 {
-    for n in 0..view.count(table) {
-        push_row(
-            alloc,
-            view,
-            heaps,
-            runs,
-            placed,
-            Token { table, row: n + 1 },
-            tables,
-        )?;
+    for n in 0..by.view.count(table) {
+        push_row(alloc, by, heaps, Token { table, row: n + 1 }, tables)?;
     }
     Ok(())
 }
@@ -131,19 +116,18 @@ fn push_table<V: ModuleView>(
 #[tactic(auto, using(crate::proofs::RowsPushed::no_table, crate::proofs::RowsPushed::one_table))]
 pub(crate) fn push_tables<V: ModuleView>(
     alloc: Global,
-    view: &V,
+    by: &Numbering<'_, V>,
     heaps: &mut HeapBuilder,
-    runs: &Runs,
-    placed: &PlacedCode,
     tables: &mut TableBuilder,
 ) -> Result<(), AllocError>
-    requires ready { AreReady (V.meaning view.now) heaps.old runs.now placed.now }
+    requires ready { AreReady (V.meaning by.now.view.now) heaps.old by.now.runs.now by.now.placed.now }
     requires none { tables.old ≡ [] }
-    ensures says { OnOk result (TablesSay (V.meaning view.now) (heaps_built heaps.old) placed.now 64 tables.new) }
+    ensures says { OnOk result (TablesSay (V.meaning by.now.view.now) (heaps_built heaps.old) by.now.placed.now
+        64 tables.new) }
     ensures same { heaps.new ≡ heaps.old }
 {
     for table in 0..64 {
-        push_table(alloc, view, heaps, runs, placed, table, tables)?;
+        push_table(alloc, by, heaps, table, tables)?;
     }
     Ok(())
 }
@@ -152,18 +136,17 @@ pub(crate) fn push_tables<V: ModuleView>(
 #[tactic(auto, using(crate::proofs::PtrTables::no_ptrs, crate::proofs::PtrTables::all_held))]
 pub(crate) fn push_all<V: ModuleView>(
     alloc: Global,
-    view: &V,
+    by: &Numbering<'_, V>,
     heaps: &mut HeapBuilder,
-    runs: &Runs,
-    placed: &PlacedCode,
     tables: &mut TableBuilder,
 ) -> Result<(), AllocError>
-    requires ready { AreReady (V.meaning view.now) heaps.old runs.now placed.now }
+    requires ready { AreReady (V.meaning by.now.view.now) heaps.old by.now.runs.now by.now.placed.now }
     requires none { tables.old ≡ [] }
-    ensures held { OnOk result (HoldRows (V.meaning view.now) (heaps_built heaps.old) placed.now tables.new) }
+    ensures held { OnOk result (HoldRows (V.meaning by.now.view.now) (heaps_built heaps.old) by.now.placed.now
+        tables.new) }
     ensures same { heaps.new ≡ heaps.old }
 {
-    push_tables(alloc, view, heaps, runs, placed, tables)?;
-    push_all_ptrs(alloc, view, tables)?;
+    push_tables(alloc, by, heaps, tables)?;
+    push_all_ptrs(alloc, by.view, tables)?;
     Ok(())
 }

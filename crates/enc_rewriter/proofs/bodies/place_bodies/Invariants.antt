@@ -6,7 +6,7 @@ use Rattle.enc_rewriter.proofs.bodies.place_bodies.Given as goal
 
 abbrev pub invariant-loop-n : goal.invariant-loop-n
 invariant-loop-n g l = (l.heaps ≡ l.fn.heaps)
-    × (length l.bodies.items ≡ l.n)
-    × AreBodiesPlaced (g.V.ModuleView.meaning l.view) (user_at (heaps_built l.fn.heaps).users) l.out.items l.bodies.items l.n
-    × Weighs (bodies_before (g.V.ModuleView.meaning l.view) l.n) (length l.out.items)
-    × AreKnown (g.V.ModuleView.meaning l.view) (user_at (heaps_built l.fn.heaps).users) (g.V.ModuleView.places l.view) l.out.items l.known
+    × (length l.rvas.items ≡ l.n)
+    × AreBodiesPlaced (g.V.ModuleView.meaning l.view) (user_at (heaps_built l.fn.heaps).users) l.to.code.items l.rvas.items l.n
+    × Weighs (bodies_before (g.V.ModuleView.meaning l.view) l.n) (length l.to.code.items)
+    × AreKnown (g.V.ModuleView.meaning l.view) (user_at (heaps_built l.fn.heaps).users) (g.V.ModuleView.places l.view) l.to.code.items l.to.known

@@ -17,9 +17,13 @@ use Rattle.enc_rewriter.proofs.SoundCode.{sound_whole}
 use Rattle.enc_rewriter.proofs.BodyStands.{said_as, said_stands, with_grows}
 use Rattle.enc_rewriter.proofs.bodies.push_body.Goals as goal
 
-pub patched-requires-clause-whole : goal.patched-requires-clause-whole
-patched-requires-clause-whole g c =
-    sound_whole (g.V.ModuleView.users c.args.view.now) (row_count (g.V.ModuleView.meaning c.args.view.now)) (code_seen c.args.body.now) (bytes_each c.args.body.now.code.now c.bytes_law.ensures) c.requires.sound
+pub patched-requires : goal.patched-requires
+patched-requires g c = record {
+  few = c.requires.few;
+  starts = c.requires.starts;
+  whole = sound_whole (g.V.ModuleView.users c.args.view.now) (row_count (g.V.ModuleView.meaning c.args.view.now)) (code_seen c.args.body.now) (bytes_each c.args.body.now.code.now c.bytes_law.ensures) c.requires.sound;
+  kept = c.requires.kept;
+}
 
 pub overflow_add-result : goal.overflow_add-result
 overflow_add-result g c =

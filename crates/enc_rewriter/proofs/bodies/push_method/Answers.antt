@@ -13,29 +13,9 @@ use Rattle.enc_rewriter.proofs.bodies.push_method.Goals as goal
 pub code-requires-clause-row : goal.code-requires-clause-row
 code-requires-clause-row g c = row_there (g.V.ModuleView.meaning c.args.view.now) 0x06 c.args.n c.requires.row
 
-pub push_body-requires-clause-sound : goal.push_body-requires-clause-sound
-push_body-requires-clause-sound g c =
-    (ready (g.V.ModuleView.meaning c.args.view.now) c.args.heaps.now (g.V.ModuleView.users c.args.view.now) c.args.n (code_seen c.in-Some.body) (length c.args.out.now.items) c.requires.sound c.requires.kept c.requires.row c.requires.light c.requires.weighs c.in-Some.ensures.body).sound
-
-pub push_body-requires-clause-nil : goal.push_body-requires-clause-nil
-push_body-requires-clause-nil g c =
-    (ready (g.V.ModuleView.meaning c.args.view.now) c.args.heaps.now (g.V.ModuleView.users c.args.view.now) c.args.n (code_seen c.in-Some.body) (length c.args.out.now.items) c.requires.sound c.requires.kept c.requires.row c.requires.light c.requires.weighs c.in-Some.ensures.body).nil
-
-pub push_body-requires-clause-rows : goal.push_body-requires-clause-rows
-push_body-requires-clause-rows g c =
-    (ready (g.V.ModuleView.meaning c.args.view.now) c.args.heaps.now (g.V.ModuleView.users c.args.view.now) c.args.n (code_seen c.in-Some.body) (length c.args.out.now.items) c.requires.sound c.requires.kept c.requires.row c.requires.light c.requires.weighs c.in-Some.ensures.body).rows
-
-pub push_body-requires-clause-kept : goal.push_body-requires-clause-kept
-push_body-requires-clause-kept g c =
-    (ready (g.V.ModuleView.meaning c.args.view.now) c.args.heaps.now (g.V.ModuleView.users c.args.view.now) c.args.n (code_seen c.in-Some.body) (length c.args.out.now.items) c.requires.sound c.requires.kept c.requires.row c.requires.light c.requires.weighs c.in-Some.ensures.body).kept
-
-pub push_body-requires-clause-near : goal.push_body-requires-clause-near
-push_body-requires-clause-near g c =
-    (ready (g.V.ModuleView.meaning c.args.view.now) c.args.heaps.now (g.V.ModuleView.users c.args.view.now) c.args.n (code_seen c.in-Some.body) (length c.args.out.now.items) c.requires.sound c.requires.kept c.requires.row c.requires.light c.requires.weighs c.in-Some.ensures.body).near
-
-pub push_body-requires-clause-room : goal.push_body-requires-clause-room
-push_body-requires-clause-room g c =
-    (ready (g.V.ModuleView.meaning c.args.view.now) c.args.heaps.now (g.V.ModuleView.users c.args.view.now) c.args.n (code_seen c.in-Some.body) (length c.args.out.now.items) c.requires.sound c.requires.kept c.requires.row c.requires.light c.requires.weighs c.in-Some.ensures.body).room
+pub push_body-requires : goal.push_body-requires
+push_body-requires g c =
+    ready (g.V.ModuleView.meaning c.args.view.now) c.args.heaps.now (g.V.ModuleView.users c.args.view.now) c.args.n (code_seen c.in-Some.body) (length c.args.out.now.items) c.requires c.in-Some.ensures.body
 
 pub returns-in-Some-clause-placed : goal.returns-in-Some-clause-placed
 returns-in-Some-clause-placed g c =
@@ -43,7 +23,7 @@ returns-in-Some-clause-placed g c =
     let new = user_at (heaps_built c.args.heaps.now).users in
     let b = body_of (g.V.ModuleView.users c.args.view.now) (code_seen c.in-Some.body) in
     if_ok c.push_body.result (λ rva. StandsAt (row_count m) new c.push_body.new.out.items rva b) (λ rva. IsBodyPlaced m new c.push_body.new.out.items c.args.n rva)
-    (λ rva stands. placed_some m new c.push_body.new.out.items c.args.n rva b c.requires.sound c.requires.row c.in-Some.ensures.body stands)
+    (λ rva stands. placed_some m new c.push_body.new.out.items c.args.n rva b c.requires.all.sound c.requires.row c.in-Some.ensures.body stands)
     c.push_body.ensures.stands
 
 pub returns-in-Some-clause-weighs : goal.returns-in-Some-clause-weighs

@@ -7,9 +7,9 @@ use Rattle.enc_rewriter.proofs.rows.push_row.Goals as goal
 
 pub push-requires-clause-few : goal.push-requires-clause-few
 push-requires-clause-few g c =
-    few_before (g.V.ModuleView.meaning c.args.view.now) (heaps_built c.args.heaps.now) c.args.placed.now c.args.row c.args.tables.now c.requires.ready.sound c.requires.row c.requires.so_far
+    few_before (g.V.ModuleView.meaning c.args.by.now.view.now) (heaps_built c.args.heaps.now) c.args.by.now.placed.now c.args.row c.args.tables.now c.requires.ready.sources.sound c.requires.row c.requires.so_far
 
 pub returns-clause-says : goal.returns-clause-says
 returns-clause-says g c =
-    one_row (g.V.ModuleView.meaning c.args.view.now) (heaps_built c.args.heaps.now) c.args.placed.now c.args.row c.args.tables.now c.push.new.self c.deref.result.now
-    (row_bounds (g.V.ModuleView.meaning c.args.view.now) c.args.row c.requires.row).0 c.requires.so_far (subst (λ xs. RowSays (g.V.ModuleView.meaning c.args.view.now) (heaps_built c.args.heaps.now) c.args.placed.now c.args.row xs) (sym c.deref.ensures.value) c.in_ok-cells.ensures.says) c.in_ok-push.ensures.pushed
+    one_row (g.V.ModuleView.meaning c.args.by.now.view.now) (heaps_built c.args.heaps.now) c.args.by.now.placed.now c.args.row c.args.tables.now c.push.new.self c.deref.result.now
+    (row_bounds (g.V.ModuleView.meaning c.args.by.now.view.now) c.args.row c.requires.row).0 c.requires.so_far (subst (λ xs. RowSays (g.V.ModuleView.meaning c.args.by.now.view.now) (heaps_built c.args.heaps.now) c.args.by.now.placed.now c.args.row xs) (sym c.deref.ensures.value) c.in_ok-cells.ensures.says) c.in_ok-push.ensures.pushed

@@ -6,7 +6,7 @@ use Rattle.enc_rewriter.proofs.rows.push_table.Given as goal
 
 abbrev pub invariant-loop-n : goal.invariant-loop-n
 invariant-loop-n g l = record {
-  says : RowsSay (g.V.ModuleView.meaning l.view) (heaps_built l.fn.heaps) l.placed l.table l.n (rows_at l.tables l.table);
+  says : RowsSay (g.V.ModuleView.meaning l.by.view.now) (heaps_built l.fn.heaps) l.by.placed.now l.table l.n (rows_at l.tables l.table);
   others : KeepOthers l.table l.fn.tables l.tables;
   same : l.heaps ≡ l.fn.heaps;
 }

@@ -5,6 +5,6 @@ use Rattle.enc_rewriter.proofs.rows.push_tables.Given as goal
 
 abbrev pub invariant-loop-table : goal.invariant-loop-table
 invariant-loop-table g l = record {
-  says : TablesSay (g.V.ModuleView.meaning l.view) (heaps_built l.fn.heaps) l.placed l.table l.tables;
+  says : TablesSay (g.V.ModuleView.meaning l.by.view.now) (heaps_built l.fn.heaps) l.by.placed.now l.table l.tables;
   same : l.heaps ≡ l.fn.heaps;
 }

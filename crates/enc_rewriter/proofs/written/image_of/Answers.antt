@@ -6,8 +6,12 @@ use Rattle.enc_rewriter.proofs.ImageSizes.{parts_light, image_fits, image_light}
 use Rattle.enc_rewriter.proofs.ImagesMean.{images_are_plain, images_mean}
 use Rattle.enc_rewriter.proofs.written.image_of.Goals as goal
 
-pub parts_with-requires-clause-weight : goal.parts_with-requires-clause-weight
-parts_with-requires-clause-weight g c = parts_light (g.V.ModuleView.meaning c.args.view.now) c.args.heaps c.requires.light
+pub parts_with-requires : goal.parts_with-requires
+parts_with-requires g c = record {
+  sound = c.requires.sound;
+  kept = c.requires.kept;
+  weight = parts_light (g.V.ModuleView.meaning c.args.view.now) c.args.heaps c.requires.light;
+}
 
 pub image_with-requires-clause-fits : goal.image_with-requires-clause-fits
 image_with-requires-clause-fits g c =
