@@ -1,7 +1,6 @@
 //! Which method a virtual call reaches, and which clause of a body catches or runs (ECMA-335 I.12.4.2.5, II.12.2).
 
-use crate::lines::{Args, Fault};
-use crate::store::spelled_token;
+use crate::lines::{Args, Fault, told};
 use enc_base::{ReadFault, Token};
 use enc_dispatch::Dispatch;
 use enc_image::Image;
@@ -37,7 +36,7 @@ fn has_another(args: &mut Args<'_>) -> Result<bool, Fault> {
 fn target(alloc: Global, dispatch: &Dispatch, args: &mut Args<'_>) -> Result<String, Fault> {
     let (class, method) = (args.token()?, args.token()?);
     match dispatch.target(class, method) {
-        Some(method) => spelled_token(alloc, method),
+        Some(method) => told::token(alloc, method),
         None => Ok(String::from_str(alloc, "none")?),
     }
 }

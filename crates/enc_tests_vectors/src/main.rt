@@ -16,8 +16,6 @@ mod rows;
 mod schema;
 mod seqpoints;
 mod sigs;
-mod store;
-mod watchers;
 
 use crate::lines::{Args, Fault, is_remark, line_with};
 use std::alloc::{AllocError, Global};
@@ -72,12 +70,6 @@ fn of_machine(alloc: Global, call: &str, args: &mut Args<'_>) -> Result<Option<S
         return Ok(Some(answer));
     }
     if let Some(answer) = dispatch::answer(alloc, call, args)? {
-        return Ok(Some(answer));
-    }
-    if let Some(answer) = store::answer(alloc, call, args)? {
-        return Ok(Some(answer));
-    }
-    if let Some(answer) = watchers::answer(alloc, call, args)? {
         return Ok(Some(answer));
     }
     Ok(None)
