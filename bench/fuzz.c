@@ -452,7 +452,7 @@ static int is_told(uint32_t s, const enc_refusal *why) {
     want(s == ENC_DONE || s == ENC_REFUSED || s == ENC_MEMORY, "a status of enc_open or enc_apply");
     if (s != ENC_REFUSED) return s == ENC_DONE;
     size_t size = 0;
-    want(enc_command_line(why, buffer, 256, &size) == ENC_DONE && size > 3 && buffer[size - 1] == '\n', "the words of a refusal");
+    want(enc_words(why, buffer, 256, &size) == ENC_DONE && size > 3 && buffer[size - 1] == '\n', "the words of a refusal");
     return 0;
 }
 
