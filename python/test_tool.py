@@ -691,6 +691,7 @@ class Symbolicate(Tool):
         started = subprocess.Popen(
             program("symbolicate", "--modules", "examples/bank"), stdin=subprocess.PIPE, stdout=subprocess.PIPE,
             stderr=subprocess.PIPE, env=around(PYTHONUNBUFFERED="1"), cwd=ROOT,
+            preexec_fn=lambda: signal.signal(signal.SIGINT, signal.SIG_DFL),  # a shell's background job ignores it
         )  # fmt: skip
         started.stdin.write(FRAMES[0][0].encode() + b"\n")
         started.stdin.flush()
