@@ -156,7 +156,7 @@ fn text_of(word: &str) -> &[u8] {
 }
 
 /// The offsets of the two texts, 0 of none, and the bytes of the root, for
-/// `root KIND STRINGS US BLOB GUID TEXT TEXT ROW ROW` with `-` for no text and for no row.
+/// `write_root KIND STRINGS US BLOB GUID TEXT TEXT ROW ROW` with `-` for no text and for no row.
 fn root(alloc: Global, args: &mut Args<'_>) -> Result<String, Fault> {
     let kind = args.word()?;
     let mut root = begin(alloc, starts(args)?)?;
@@ -175,7 +175,7 @@ fn root(alloc: Global, args: &mut Args<'_>) -> Result<String, Fault> {
 /// The answer to a call of this file, None where the call is another.
 pub fn answer(alloc: Global, call: &str, args: &mut Args<'_>) -> Result<Option<String>, Fault> {
     Ok(Some(match call {
-        "root" => root(alloc, args)?,
+        "write_root" => root(alloc, args)?,
         _ => return Ok(None),
     }))
 }
