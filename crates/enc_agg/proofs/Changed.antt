@@ -11,7 +11,7 @@ use Rattle.enc_base.specs.Token.{number_of}
 use Rattle.enc_rows.specs.Source.{Source}
 use Rattle.enc_rows.specs.Sums.{below}
 use Rattle.enc_plain.specs.Chain.{Chain, rows_before}
-use Rattle.enc_delta.specs.declared.entry.Entry.{Entry}
+use Rattle.enc_delta.specs.declared.log_entry.LogEntry.{LogEntry}
 use Rattle.enc_delta.specs.Delta.{listed, log_in, entry_at}
 use Rattle.enc_delta.specs.Rules.{is_insert, inserts, rows_with, counts, changed, stands_in, in_one, set_fault}
 use Rattle.enc_delta.specs.Judged.{unmatched_token}
@@ -89,20 +89,20 @@ unfolding set_fault
 in_both ns ms h = none_behind (in_one ns ms) (stands_in ns) ns ms (λ n e. not_one (stands_in ns n) (stands_in ms n) e) (no_least _ (no_place _ h))
 
 -- each entry that counts and has code 0 names one of so many rows
-abbrev pub Names : (ℕ → ℕ) → List Entry → Type 0
+abbrev pub Names : (ℕ → ℕ) → List LogEntry → Type 0
 Names count [] = Unit {0}
-Names count (e ∷ es) = (counts e ≡ true → e.code ≡ 0 → e.token.row ≤ count e.token.table) × Names count es
+Names count (e ∷ es) = (counts e ≡ true → e.operation ≡ 0 → e.token.row ≤ count e.token.table) × Names count es
 
 -- each entry's row has a number of three bytes
-abbrev Small : List Entry → Type 0
+abbrev Small : List LogEntry → Type 0
 Small [] = Unit {0}
 Small (e ∷ es) = (e.token.row < 0x1000000) × Small es
 
-changed_yes : (e : Entry) (es : List Entry) → (counts e && e.code == 0) ≡ true → changed (e ∷ es) ≡ e.token ∷ changed es
+changed_yes : (e : LogEntry) (es : List LogEntry) → (counts e && e.operation == 0) ≡ true → changed (e ∷ es) ≡ e.token ∷ changed es
 unfolding changed
 changed_yes e es h = rw h refl
 
-changed_no : (e : Entry) (es : List Entry) → (counts e && e.code == 0) ≡ false → changed (e ∷ es) ≡ changed es
+changed_no : (e : LogEntry) (es : List LogEntry) → (counts e && e.operation == 0) ≡ false → changed (e ∷ es) ≡ changed es
 unfolding changed
 changed_no e es h = rw h refl
 
@@ -110,22 +110,22 @@ both : (a : Bool) (n : ℕ) → (a && n == 0) ≡ false → a ≡ true → n ≡
 both true n h k e = let z : (n == 0) ≡ true = grind (arith, nat_tests) in absurd cc
 both false n h k e = absurd cc
 
-names_step : (count : ℕ → ℕ) (tokens : List Token) (e : Entry) (es : List Entry) (b : Bool) → (counts e && e.code == 0) ≡ b → Within count tokens → e.token.row < 0x1000000 → list_all (stands_in (map number_of tokens)) (map number_of (changed (e ∷ es))) ≡ true → (list_all (stands_in (map number_of tokens)) (map number_of (changed es)) ≡ true → Names count es) → Names count (e ∷ es)
+names_step : (count : ℕ → ℕ) (tokens : List Token) (e : LogEntry) (es : List LogEntry) (b : Bool) → (counts e && e.operation == 0) ≡ b → Within count tokens → e.token.row < 0x1000000 → list_all (stands_in (map number_of tokens)) (map number_of (changed (e ∷ es))) ≡ true → (list_all (stands_in (map number_of tokens)) (map number_of (changed es)) ≡ true → Names count es) → Names count (e ∷ es)
 names_step count tokens e es true is w small h rest =
     let k = and_parts _ _ (rw (changed_yes e es is) at h) in
     ((λ on zero. named_within count tokens e.token w small k.0), rest k.1)
-names_step count tokens e es false is w small h rest = ((λ on zero. absurd (both (counts e) e.code is on zero)), rest (rw (changed_no e es is) at h))
+names_step count tokens e es false is w small h rest = ((λ on zero. absurd (both (counts e) e.operation is on zero)), rest (rw (changed_no e es is) at h))
 
-names_from : (count : ℕ → ℕ) (tokens : List Token) (es : List Entry) → Within count tokens → Small es → list_all (stands_in (map number_of tokens)) (map number_of (changed es)) ≡ true → Names count es
+names_from : (count : ℕ → ℕ) (tokens : List Token) (es : List LogEntry) → Within count tokens → Small es → list_all (stands_in (map number_of tokens)) (map number_of (changed es)) ≡ true → Names count es
 names_from count tokens [] w small h = tt
-names_from count tokens (e ∷ es) w small h = names_step count tokens e es (counts e && e.code == 0) refl w small.0 h (names_from count tokens es w small.1)
+names_from count tokens (e ∷ es) w small h = names_step count tokens e es (counts e && e.operation == 0) refl w small.0 h (names_from count tokens es w small.1)
 
-found_step : (count : ℕ → ℕ) (e f : Entry) (o : Option Entry) (b : Bool) → counts e ≡ b → (counts e ≡ true → e.code ≡ 0 → e.token.row ≤ count e.token.table) → (cond b (Some e) o) ≡ Some f → f.code ≡ 0 → (o ≡ Some f → f.token.row ≤ count f.token.table) → f.token.row ≤ count f.token.table
+found_step : (count : ℕ → ℕ) (e f : LogEntry) (o : Option LogEntry) (b : Bool) → counts e ≡ b → (counts e ≡ true → e.operation ≡ 0 → e.token.row ≤ count e.token.table) → (cond b (Some e) o) ≡ Some f → f.operation ≡ 0 → (o ≡ Some f → f.token.row ≤ count f.token.table) → f.token.row ≤ count f.token.table
 found_step count e f o true is h at zero rest = let s : e ≡ f = cc in (rw s at h) (rw s at is) zero
 found_step count e f o false is h at zero rest = rest at
 
 -- the next entry that counts, where it has code 0
-pub found_named : (count : ℕ → ℕ) (es : List Entry) (f : Entry) → Names count es → find counts es ≡ Some f → f.code ≡ 0 → f.token.row ≤ count f.token.table
+pub found_named : (count : ℕ → ℕ) (es : List LogEntry) (f : LogEntry) → Names count es → find counts es ≡ Some f → f.operation ≡ 0 → f.token.row ≤ count f.token.table
 found_named count [] f names h zero = absurd cc
 found_named count (e ∷ es) f names h zero = found_step count e f (find counts es) (counts e) refl names.0 h zero (λ at. found_named count es f names.1 at zero)
 

@@ -16,7 +16,7 @@ use Rattle.enc_plain.specs.Fits.{AllAttach, HasRuns}
 use Rattle.enc_plain.specs.Chain.{Chain, rows_before}
 use Rattle.enc_plain.proofs.Applied.{kids_applied, runs_applied}
 use Rattle.enc_plain.proofs.AttachedTo.{attached_all}
-use Rattle.enc_delta.specs.declared.entry.Entry.{Entry}
+use Rattle.enc_delta.specs.declared.log_entry.LogEntry.{LogEntry}
 use Rattle.enc_delta.specs.Delta.{listed, log_in}
 use Rattle.enc_delta.specs.Rules.{counted, inserts, rows_with, child_table, adds, children, child_fault_in, child_fault}
 use Rattle.enc_delta.proofs.ListsChildren.{hits, log_named, one_unnamed}
@@ -94,7 +94,7 @@ or_none : {A : Type 0} (a b : Option A) → or_else a b ≡ None → (a ≡ None
 or_none None b h = (refl, h)
 or_none (Some x) b h = absurd cc
 
-all_named : (c : Chain) (tokens : List Token) (log : List Entry) → child_fault c tokens log ≡ None → (t : ℕ) → is_child_table t ≡ true → child_fault_in c tokens log t ≡ None
+all_named : (c : Chain) (tokens : List Token) (log : List LogEntry) → child_fault c tokens log ≡ None → (t : ℕ) → is_child_table t ≡ true → child_fault_in c tokens log t ≡ None
 unfolding child_fault
 all_named c tokens log h t there =
     let a = or_none (child_fault_in c tokens log 0x04) _ h in

@@ -10,7 +10,7 @@ use Rattle.enc_plain.specs.Apply.{Attached, attach, attach_all}
 use Rattle.enc_plain.specs.Fits.{Attaches, AllAttach}
 use Rattle.enc_plain.specs.Chain.{Chain, rows_before}
 use Rattle.enc_plain.proofs.AttachedTo.{count_attached}
-use Rattle.enc_delta.specs.declared.entry.Entry.{Entry}
+use Rattle.enc_delta.specs.declared.log_entry.LogEntry.{LogEntry}
 use Rattle.enc_delta.specs.Rules.{counts, counted, adds, is_add, rows_with, has_parent, follows, parent_table, child_table, log_fault, children}
 use Rattle.enc_delta.proofs.ListsChildren.{two, first_of, counted_first, counted_yes, counted_no, Judged, log_judged, equal, add_low, add_high}
 use Rattle.enc_delta.specs.Pairs.{pairs_in}
@@ -18,16 +18,16 @@ use Rattle.enc_agg.proofs.Fitting.{attach_tables}
 use Rattle.enc_agg.proofs.Changed.{Names, found_named}
 
 -- the pair of an entry, by the next entry that counts
-abbrev pub pair_of : Entry → Option Entry → List Attached
+abbrev pub pair_of : LogEntry → Option LogEntry → List Attached
 pair_of e None = []
-pair_of e (Some f) = if is_add e.code then record { owner = e.token; child = f.token } ∷ [] else []
+pair_of e (Some f) = if is_add e.operation then record { owner = e.token; child = f.token } ∷ [] else []
 
-pairs_cons : (e : Entry) (ys : List Entry) → pairs_in (e ∷ ys) ≡ pair_of e (first_of ys) ++ pairs_in ys
+pairs_cons : (e : LogEntry) (ys : List LogEntry) → pairs_in (e ∷ ys) ≡ pair_of e (first_of ys) ++ pairs_in ys
 pairs_cons e [] = refl
-pairs_cons e (f ∷ ys) = elim (two (is_add e.code)) [ inl a ↦ rw a refl | inr a ↦ rw a refl ]
+pairs_cons e (f ∷ ys) = elim (two (is_add e.operation)) [ inl a ↦ rw a refl | inr a ↦ rw a refl ]
 
 -- the pairs of one entry more
-pub pairs_yes : (e : Entry) (es : List Entry) → counts e ≡ true → pairs_in (counted (e ∷ es)) ≡ pair_of e (find counts es) ++ pairs_in (counted es)
+pub pairs_yes : (e : LogEntry) (es : List LogEntry) → counts e ≡ true → pairs_in (counted (e ∷ es)) ≡ pair_of e (find counts es) ++ pairs_in (counted es)
 pairs_yes e es h = ap pairs_in (counted_yes e es h) ∙ pairs_cons e (counted es) ∙ ap (λ o. pair_of e o ++ pairs_in (counted es)) (counted_first es)
 
 child_step : (b : Bool) (a : Attached) (t : Token) (pairs : List Attached) (ts : List Token) → a.child ≡ t → map (λ (p : Attached). p.child) pairs ≡ ts → map (λ (p : Attached). p.child) (if b then a ∷ pairs else pairs) ≡ (if b then t ∷ ts else ts)
@@ -35,10 +35,10 @@ child_step true a t pairs ts h e = rw (h, e) refl
 child_step false a t pairs ts h e = e
 
 -- the children of the pairs are those of the Add entries
-pub pair_children : (es : List Entry) → map (λ (p : Attached). p.child) (pairs_in es) ≡ children es
+pub pair_children : (es : List LogEntry) → map (λ (p : Attached). p.child) (pairs_in es) ≡ children es
 pair_children [] = refl
 pair_children (e ∷ []) = refl
-pair_children (e ∷ f ∷ es) = child_step (is_add e.code) (record { owner = e.token; child = f.token }) f.token (pairs_in (f ∷ es)) (children (f ∷ es)) refl (pair_children (f ∷ es))
+pair_children (e ∷ f ∷ es) = child_step (is_add e.operation) (record { owner = e.token; child = f.token }) f.token (pairs_in (f ∷ es)) (children (f ∷ es)) refl (pair_children (f ∷ es))
 
 -- the pair's owner is one of so many rows of its child's owners' table, and its child is one of them that isn't one of those before
 pub record OwnedBy (count before : ℕ → ℕ) (a : Attached) : Type 0 where
@@ -74,44 +74,44 @@ three true false d h = absurd cc
 three false b d h = absurd cc
 
 -- what a child is: a new row of its code's child table
-pub child_is : (c : Chain) (before : List Entry) (code : ℕ) (f : Entry) → follows c before code (Some f) ≡ true → (f.code ≡ 0) × ((f.token.table ≡ child_table code) × (f.token.row ≡ rows_before c (child_table code) + adds before code + 1))
+pub child_is : (c : Chain) (before : List LogEntry) (code : ℕ) (f : LogEntry) → follows c before code (Some f) ≡ true → (f.operation ≡ 0) × ((f.token.table ≡ child_table code) × (f.token.row ≡ rows_before c (child_table code) + adds before code + 1))
 unfolding follows
 child_is c before code f h =
-    let t = three (f.code == 0) (f.token.table == child_table code) (f.token.row == rows_before c (child_table code) + adds before code + 1) h in
+    let t = three (f.operation == 0) (f.token.table == child_table code) (f.token.row == rows_before c (child_table code) + adds before code + 1) h in
     (equal _ _ t.0, (equal _ _ t.1.0, equal _ _ t.1.1))
 
-parent_is : (c : Chain) (tokens : List Token) (e : Entry) → has_parent c tokens e ≡ true → (e.token.table ≡ parent_table e.code) × ((0 < e.token.row) × (e.token.row ≤ rows_with c tokens e.token.table))
+parent_is : (c : Chain) (tokens : List Token) (e : LogEntry) → has_parent c tokens e ≡ true → (e.token.table ≡ parent_table e.operation) × ((0 < e.token.row) × (e.token.row ≤ rows_with c tokens e.token.table))
 unfolding has_parent
 parent_is c tokens e h =
-    let t = three (e.token.table == parent_table e.code) (nat_le 1 e.token.row) (nat_le e.token.row (rows_with c tokens e.token.table)) h in
+    let t = three (e.token.table == parent_table e.operation) (nat_le 1 e.token.row) (nat_le e.token.row (rows_with c tokens e.token.table)) h in
     (equal _ _ t.0, (grind (arith, nat_tests, t.1.0), grind (arith, nat_tests, t.1.1)))
 
 new_one : (c : Chain) (t u row n : ℕ) → t ≡ u → row ≡ rows_before c u + n + 1 → rows_before c t < row
 new_one c t u row n e h = rw e (omega arith)
 
-owned_one : (c : Chain) (tokens : List Token) (before : List Entry) (e f : Entry) → is_add e.code ≡ true → has_parent c tokens e ≡ true → follows c before e.code (Some f) ≡ true → (f.code ≡ 0 → f.token.row ≤ rows_with c tokens f.token.table) → OwnedBy (rows_with c tokens) (rows_before c) (record { owner = e.token; child = f.token })
+owned_one : (c : Chain) (tokens : List Token) (before : List LogEntry) (e f : LogEntry) → is_add e.operation ≡ true → has_parent c tokens e ≡ true → follows c before e.operation (Some f) ≡ true → (f.operation ≡ 0 → f.token.row ≤ rows_with c tokens f.token.table) → OwnedBy (rows_with c tokens) (rows_before c) (record { owner = e.token; child = f.token })
 owned_one c tokens before e f a h g last =
-    let child = child_is c before e.code f g in
+    let child = child_is c before e.operation f g in
     let parent = parent_is c tokens e h in
-    let meet = tables_meet e.code (add_low e.code a) (add_high e.code a) in
+    let meet = tables_meet e.operation (add_low e.operation a) (add_high e.operation a) in
     record {
       table = parent.0 ∙ meet.0 ∙ ap owner_table (sym child.1.0);
       child = ap is_child_table child.1.0 ∙ meet.1;
       low = parent.1.0;
       high = parent.1.1;
-      new = new_one c f.token.table (child_table e.code) f.token.row (adds before e.code) child.1.0 child.1.1;
+      new = new_one c f.token.table (child_table e.operation) f.token.row (adds before e.operation) child.1.0 child.1.1;
       last = last child.0;
     }
 
-owned_pair : (c : Chain) (tokens : List Token) (before : List Entry) (e : Entry) (o : Option Entry) → (is_add e.code ≡ true → has_parent c tokens e ≡ true) → (is_add e.code ≡ true → follows c before e.code o ≡ true) → ((f : Entry) → o ≡ Some f → f.code ≡ 0 → f.token.row ≤ rows_with c tokens f.token.table) → AllOwned (rows_with c tokens) (rows_before c) (pair_of e o)
+owned_pair : (c : Chain) (tokens : List Token) (before : List LogEntry) (e : LogEntry) (o : Option LogEntry) → (is_add e.operation ≡ true → has_parent c tokens e ≡ true) → (is_add e.operation ≡ true → follows c before e.operation o ≡ true) → ((f : LogEntry) → o ≡ Some f → f.operation ≡ 0 → f.token.row ≤ rows_with c tokens f.token.table) → AllOwned (rows_with c tokens) (rows_before c) (pair_of e o)
 owned_pair c tokens before e None h g last = tt
 owned_pair c tokens before e (Some f) h g last =
-    elim (two (is_add e.code)) [
+    elim (two (is_add e.operation)) [
       | inl a ↦ rw a (owned_one c tokens before e f a (h a) (g a) (last f refl), tt)
       | inr a ↦ rw a tt
     ]
 
-owned_from : (c : Chain) (tokens : List Token) (before es : List Entry) → Judged c tokens before es → Names (rows_with c tokens) es → AllOwned (rows_with c tokens) (rows_before c) (pairs_in (counted es))
+owned_from : (c : Chain) (tokens : List Token) (before es : List LogEntry) → Judged c tokens before es → Names (rows_with c tokens) es → AllOwned (rows_with c tokens) (rows_before c) (pairs_in (counted es))
 unfolding counted
 owned_from c tokens before [] judged names = tt
 owned_from c tokens before (e ∷ es) judged names =
@@ -122,7 +122,7 @@ owned_from c tokens before (e ∷ es) judged names =
     ]
 
 -- the pairs of a log that breaks no rule
-pub log_owned : (c : Chain) (tokens : List Token) (log : List Entry) → log_fault c tokens log ≡ None → Names (rows_with c tokens) log → AllOwned (rows_with c tokens) (rows_before c) (pairs_in (counted log))
+pub log_owned : (c : Chain) (tokens : List Token) (log : List LogEntry) → log_fault c tokens log ≡ None → Names (rows_with c tokens) log → AllOwned (rows_with c tokens) (rows_before c) (pairs_in (counted log))
 log_owned c tokens log none names = owned_from c tokens [] log (log_judged c tokens log none) names
 
 owners_small : (t : ℕ) → is_child_table t ≡ true → owner_table t < 0x2D

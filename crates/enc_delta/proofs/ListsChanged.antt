@@ -7,13 +7,13 @@ use Rattle.std.proofs.lemmas.List.{map-append}
 use Rattle.std.proofs.lemmas.List.Elements.{filter_more}
 use Rattle.std.proofs.lemmas.List.Folds.{list_all-append}
 use Rattle.enc_base.specs.declared.token.Token.{Token}
-use Rattle.enc_delta.specs.declared.entry.Entry.{Entry}
+use Rattle.enc_delta.specs.declared.log_entry.LogEntry.{LogEntry}
 use Rattle.enc_delta.specs.Rules.{counts, changed}
 use Rattle.enc_delta.specs.Lists.{AreTokens, AreEntries}
 use Rattle.enc_delta.proofs.ListsInserts.{no_token}
 
-abbrev pub no_entry : Entry
-no_entry = record { token = no_token; code = 0 }
+abbrev pub no_entry : LogEntry
+no_entry = record { token = no_token; operation = 0 }
 
 -- all of a list is gone over
 pub take_end : {A : Type 0} (xs : List A) (k : ℕ) → k ≡ length xs → take k xs ≡ xs
@@ -40,18 +40,18 @@ pub changed_none : [] ≡ changed []
 unfolding changed
 changed_none = refl
 
-pub changed_yes : (log : List Entry) (k : ℕ) → k < length log → (counts (get_or log k no_entry) && (get_or log k no_entry).code == 0) ≡ true → changed (take (k + 1) log) ≡ changed (take k log) ++ (get_or log k no_entry).token ∷ []
+pub changed_yes : (log : List LogEntry) (k : ℕ) → k < length log → (counts (get_or log k no_entry) && (get_or log k no_entry).operation == 0) ≡ true → changed (take (k + 1) log) ≡ changed (take k log) ++ (get_or log k no_entry).token ∷ []
 unfolding changed
-changed_yes log k h is = rw (filter_more (λ (e : Entry). counts e && e.code == 0) log k no_entry h, is) (map-append _ _ _)
+changed_yes log k h is = rw (filter_more (λ (e : LogEntry). counts e && e.operation == 0) log k no_entry h, is) (map-append _ _ _)
 
-pub changed_no : (log : List Entry) (k : ℕ) → k < length log → (counts (get_or log k no_entry) && (get_or log k no_entry).code == 0) ≡ false → changed (take (k + 1) log) ≡ changed (take k log)
+pub changed_no : (log : List LogEntry) (k : ℕ) → k < length log → (counts (get_or log k no_entry) && (get_or log k no_entry).operation == 0) ≡ false → changed (take (k + 1) log) ≡ changed (take k log)
 unfolding changed
-changed_no log k h is = rw (filter_more (λ (e : Entry). counts e && e.code == 0) log k no_entry h, is, map-append) (append-nil _)
+changed_no log k h is = rw (filter_more (λ (e : LogEntry). counts e && e.operation == 0) log k no_entry h, is, map-append) (append-nil _)
 
 -- the tokens so far are tokens by their numbers
-pub tokens_more : (tokens : List Token) (log : List Entry) (k : ℕ) → AreTokens tokens → AreEntries log → k < length log → AreTokens (tokens ++ (get_or log k no_entry).token ∷ [])
+pub tokens_more : (tokens : List Token) (log : List LogEntry) (k : ℕ) → AreTokens tokens → AreEntries log → k < length log → AreTokens (tokens ++ (get_or log k no_entry).token ∷ [])
 tokens_more tokens log k done all h =
-    rw (list_all-append (λ (t : Token). nat_lt t.row 0x1000000) tokens ((get_or log k no_entry).token ∷ []), done, all_at (λ (e : Entry). nat_lt e.token.row 0x1000000) log k no_entry all h) refl
+    rw (list_all-append (λ (t : Token). nat_lt t.row 0x1000000) tokens ((get_or log k no_entry).token ∷ []), done, all_at (λ (e : LogEntry). nat_lt e.token.row 0x1000000) log k no_entry all h) refl
 
 pub token_fits : (tokens : List Token) (k : ℕ) → AreTokens tokens → k < length tokens → (get_or tokens k no_token).row < 0x1000000
 token_fits tokens k all h =

@@ -15,7 +15,7 @@ use Rattle.enc_base.proofs.First.{first_none, first_found, first_more, first_mea
 use Rattle.enc_plain.specs.Module.{Module, rows_in}
 use Rattle.enc_plain.specs.Chain.{Chain, rows_before}
 use Rattle.enc_plain.proofs.Columns.{both_left, both_right}
-use Rattle.enc_delta.specs.declared.entry.Entry.{Entry}
+use Rattle.enc_delta.specs.declared.log_entry.LogEntry.{LogEntry}
 use Rattle.enc_base.specs.Token.{is_token}
 use Rattle.enc_delta.specs.Rules.{broken, counts, counted, adds, is_add, has_parent, follows, child_table, log_fault_of, log_fault_at, log_fault, children, new_row, child_fault_at, child_fault_in, inserts, insert_fault_at, insert_fault_of, insert_fault, is_insert}
 use Rattle.enc_delta.specs.Lists.{AreTokens}
@@ -27,44 +27,44 @@ two true = inl refl
 two false = inr refl
 
 -- the child of an entry, by the next entry that counts
-abbrev kid : Entry → Option Entry → List Token
+abbrev kid : LogEntry → Option LogEntry → List Token
 kid e None = []
-kid e (Some f) = if is_add e.code then f.token ∷ [] else []
+kid e (Some f) = if is_add e.operation then f.token ∷ [] else []
 
-abbrev pub first_of : List Entry → Option Entry
+abbrev pub first_of : List LogEntry → Option LogEntry
 first_of [] = None
 first_of (e ∷ es) = Some e
 
-children_cons : (e : Entry) (ys : List Entry) → children (e ∷ ys) ≡ kid e (first_of ys) ++ children ys
+children_cons : (e : LogEntry) (ys : List LogEntry) → children (e ∷ ys) ≡ kid e (first_of ys) ++ children ys
 children_cons e [] = refl
-children_cons e (f ∷ ys) = elim (two (is_add e.code)) [ inl a ↦ rw a refl | inr a ↦ rw a refl ]
+children_cons e (f ∷ ys) = elim (two (is_add e.operation)) [ inl a ↦ rw a refl | inr a ↦ rw a refl ]
 
-pub counted_first : (es : List Entry) → first_of (counted es) ≡ find counts es
+pub counted_first : (es : List LogEntry) → first_of (counted es) ≡ find counts es
 unfolding counted
 counted_first [] = refl
 counted_first (e ∷ es) = elim (two (counts e)) [ inl a ↦ rw a refl | inr a ↦ rw a (counted_first es) ]
 
-pub counted_yes : (e : Entry) (es : List Entry) → counts e ≡ true → counted (e ∷ es) ≡ e ∷ counted es
+pub counted_yes : (e : LogEntry) (es : List LogEntry) → counts e ≡ true → counted (e ∷ es) ≡ e ∷ counted es
 unfolding counted
 counted_yes e es h = rw h refl
 
-pub counted_no : (e : Entry) (es : List Entry) → counts e ≡ false → counted (e ∷ es) ≡ counted es
+pub counted_no : (e : LogEntry) (es : List LogEntry) → counts e ≡ false → counted (e ∷ es) ≡ counted es
 unfolding counted
 counted_no e es h = rw h refl
 
-children_yes : (e : Entry) (es : List Entry) → counts e ≡ true → children (counted (e ∷ es)) ≡ kid e (find counts es) ++ children (counted es)
+children_yes : (e : LogEntry) (es : List LogEntry) → counts e ≡ true → children (counted (e ∷ es)) ≡ kid e (find counts es) ++ children (counted es)
 children_yes e es h = ap children (counted_yes e es h) ∙ children_cons e (counted es) ∙ ap (λ o. kid e o ++ children (counted es)) (counted_first es)
 
 -- each Add entry is followed by its child
-abbrev pub Good : Chain → List Entry → List Entry → Type 0
+abbrev pub Good : Chain → List LogEntry → List LogEntry → Type 0
 Good c before [] = Unit {0}
-Good c before (e ∷ es) = (counts e ≡ true → is_add e.code ≡ true → follows c before e.code (find counts es) ≡ true) × Good c (before ++ e ∷ []) es
+Good c before (e ∷ es) = (counts e ≡ true → is_add e.operation ≡ true → follows c before e.operation (find counts es) ≡ true) × Good c (before ++ e ∷ []) es
 
 seam : {A : Type 0} (before : List A) (e : A) (es : List A) → slice_get (before ++ e ∷ es) (length before) ≡ Some e
 seam [] e es = refl
 seam (x ∷ before) e es = seam before e es
 
-pub at_seam : (c : Chain) (tokens : List Token) (before : List Entry) (e : Entry) (es : List Entry) → log_fault_at c tokens (before ++ e ∷ es) (length before) ≡ log_fault_of c tokens before es (length before) e
+pub at_seam : (c : Chain) (tokens : List Token) (before : List LogEntry) (e : LogEntry) (es : List LogEntry) → log_fault_at c tokens (before ++ e ∷ es) (length before) ≡ log_fault_of c tokens before es (length before) e
 unfolding log_fault_at
 at_seam c tokens before e es = rw (seam before e es, take-append_seam before (e ∷ es), drop-append-add before (e ∷ es) 1) refl
 
@@ -77,22 +77,22 @@ sound p true b false h f e x y = absurd cc
 sound p false b d h f e x y = absurd cc
 
 -- each Add entry has its parent, and is followed by its child
-abbrev pub Judged : Chain → List Token → List Entry → List Entry → Type 0
+abbrev pub Judged : Chain → List Token → List LogEntry → List LogEntry → Type 0
 Judged c tokens before [] = Unit {0}
-Judged c tokens before (e ∷ es) = (counts e ≡ true → is_add e.code ≡ true → (has_parent c tokens e ≡ true) × (follows c before e.code (find counts es) ≡ true)) × Judged c tokens (before ++ e ∷ []) es
+Judged c tokens before (e ∷ es) = (counts e ≡ true → is_add e.operation ≡ true → (has_parent c tokens e ≡ true) × (follows c before e.operation (find counts es) ≡ true)) × Judged c tokens (before ++ e ∷ []) es
 
-judged_here : (c : Chain) (tokens : List Token) (before es : List Entry) (k : ℕ) (e : Entry) → log_fault_of c tokens before es k e ≡ None → counts e ≡ true → is_add e.code ≡ true → (has_parent c tokens e ≡ true) × (follows c before e.code (find counts es) ≡ true)
+judged_here : (c : Chain) (tokens : List Token) (before es : List LogEntry) (k : ℕ) (e : LogEntry) → log_fault_of c tokens before es k e ≡ None → counts e ≡ true → is_add e.operation ≡ true → (has_parent c tokens e ≡ true) × (follows c before e.operation (find counts es) ≡ true)
 unfolding log_fault_of
-judged_here c tokens before es k e h x y = sound (place.Log (k + 1)) (counts e) (nat_lt 5 e.code) (is_add e.code) (has_parent c tokens e) (follows c before e.code (find counts es)) h x y
+judged_here c tokens before es k e h x y = sound (place.Log (k + 1)) (counts e) (nat_lt 5 e.operation) (is_add e.operation) (has_parent c tokens e) (follows c before e.operation (find counts es)) h x y
 
-judged_from : (c : Chain) (tokens : List Token) (before es : List Entry) → ((k : ℕ) → k < length (before ++ es) → log_fault_at c tokens (before ++ es) k ≡ None) → Judged c tokens before es
+judged_from : (c : Chain) (tokens : List Token) (before es : List LogEntry) → ((k : ℕ) → k < length (before ++ es) → log_fault_at c tokens (before ++ es) k ≡ None) → Judged c tokens before es
 judged_from c tokens before [] each = tt
 judged_from c tokens before (e ∷ es) each =
     let short : length before < length (before ++ e ∷ es) = rw (length-append before (e ∷ es)) (omega arith) in
     let at : log_fault_of c tokens before es (length before) e ≡ None = sym (at_seam c tokens before e es) ∙ each (length before) short in
-    (judged_here c tokens before es (length before) e at, judged_from c tokens (before ++ e ∷ []) es (subst (λ (l : List Entry). (k : ℕ) → k < length l → log_fault_at c tokens l k ≡ None) (sym (append_assoc before (e ∷ []) es)) each))
+    (judged_here c tokens before es (length before) e at, judged_from c tokens (before ++ e ∷ []) es (subst (λ (l : List LogEntry). (k : ℕ) → k < length l → log_fault_at c tokens l k ≡ None) (sym (append_assoc before (e ∷ []) es)) each))
 
-good_of : (c : Chain) (tokens : List Token) (before es : List Entry) → Judged c tokens before es → Good c before es
+good_of : (c : Chain) (tokens : List Token) (before es : List LogEntry) → Judged c tokens before es → Good c before es
 good_of c tokens before [] judged = tt
 good_of c tokens before (e ∷ es) judged = (λ x y. (judged.0 x y).1, good_of c tokens (before ++ e ∷ []) es judged.1)
 
@@ -106,11 +106,11 @@ none_of rule (suc n) h =
     let e : suc n ≡ n + 1 = omega arith in
     rw e (first_more rule n (none_of rule n (λ k l. h k (omega arith))) ∙ h n (omega arith))
 
-pub log_judged : (c : Chain) (tokens : List Token) (log : List Entry) → log_fault c tokens log ≡ None → Judged c tokens [] log
+pub log_judged : (c : Chain) (tokens : List Token) (log : List LogEntry) → log_fault c tokens log ≡ None → Judged c tokens [] log
 unfolding log_fault
 log_judged c tokens log h = judged_from c tokens [] log (none_at (log_fault_at c tokens log) (length log) h)
 
-pub log_good : (c : Chain) (tokens : List Token) (log : List Entry) → log_fault c tokens log ≡ None → Good c [] log
+pub log_good : (c : Chain) (tokens : List Token) (log : List LogEntry) → log_fault c tokens log ≡ None → Good c [] log
 log_good c tokens log h = good_of c tokens [] log (log_judged c tokens log h)
 
 -- 1 from low to below low + n
@@ -130,11 +130,11 @@ plus_none : (n : ℕ) → n + 0 ≡ n
 plus_none n = omega arith
 
 -- how Add entries count, at the front and at the end
-adds_head : (e : Entry) (es : List Entry) (code : ℕ) → adds (e ∷ es) code ≡ cond (counts e && e.code == code) 1 0 + adds es code
-adds_head e es code = sum_by-cons (λ (f : Entry). cond (counts f && f.code == code) 1 0) e es
+adds_head : (e : LogEntry) (es : List LogEntry) (code : ℕ) → adds (e ∷ es) code ≡ cond (counts e && e.operation == code) 1 0 + adds es code
+adds_head e es code = sum_by-cons (λ (f : LogEntry). cond (counts f && f.operation == code) 1 0) e es
 
-pub adds_push : (before : List Entry) (e : Entry) (code : ℕ) → adds (before ++ e ∷ []) code ≡ adds before code + cond (counts e && e.code == code) 1 0
-adds_push before e code = sum_by-append (λ (f : Entry). cond (counts f && f.code == code) 1 0) before (e ∷ []) ∙ ap (λ n. adds before code + n) (sum_by-cons (λ (f : Entry). cond (counts f && f.code == code) 1 0) e [] ∙ plus_none _)
+pub adds_push : (before : List LogEntry) (e : LogEntry) (code : ℕ) → adds (before ++ e ∷ []) code ≡ adds before code + cond (counts e && e.operation == code) 1 0
+adds_push before e code = sum_by-append (λ (f : LogEntry). cond (counts f && f.operation == code) 1 0) before (e ∷ []) ∙ ap (λ n. adds before code + n) (sum_by-cons (λ (f : LogEntry). cond (counts f && f.operation == code) 1 0) e [] ∙ plus_none _)
 
 -- the code of a child's table
 abbrev code_of : ℕ → ℕ
@@ -180,21 +180,21 @@ three true false d h = absurd cc
 three false b d h = absurd cc
 
 -- how often the child of an Add entry names a row
-pub kid_count : (c : Chain) (before : List Entry) (e : Entry) (o : Option Entry) (code r : ℕ) → is_add e.code ≡ true → follows c before e.code o ≡ true → 1 ≤ code → code ≤ 5 → count_by (is_token (new_row c (child_table code) r)) (kid e o) ≡ cond (e.code == code && r == adds before code) 1 0
+pub kid_count : (c : Chain) (before : List LogEntry) (e : LogEntry) (o : Option LogEntry) (code r : ℕ) → is_add e.operation ≡ true → follows c before e.operation o ≡ true → 1 ≤ code → code ≤ 5 → count_by (is_token (new_row c (child_table code) r)) (kid e o) ≡ cond (e.operation == code && r == adds before code) 1 0
 unfolding follows
 kid_count c before e None code r a f l h = absurd cc
 kid_count c before e (Some g) code r a f l h =
-    let t = three (g.code == 0) (g.token.table == child_table e.code) (g.token.row == rows_before c (child_table e.code) + adds before e.code + 1) f in
-    let tab : g.token.table ≡ child_table e.code = equal _ _ t.0 in
-    let row : g.token.row ≡ rows_before c (child_table e.code) + adds before e.code + 1 = equal _ _ t.1 in
-    rw a (one_count (is_token (new_row c (child_table code) r)) g.token ∙ elim (cases_eq e.code code) [
+    let t = three (g.operation == 0) (g.token.table == child_table e.operation) (g.token.row == rows_before c (child_table e.operation) + adds before e.operation + 1) f in
+    let tab : g.token.table ≡ child_table e.operation = equal _ _ t.0 in
+    let row : g.token.row ≡ rows_before c (child_table e.operation) + adds before e.operation + 1 = equal _ _ t.1 in
+    rw a (one_count (is_token (new_row c (child_table code) r)) g.token ∙ elim (cases_eq e.operation code) [
       | inl same ↦ rw (tab, row, same, equal_is code code refl, equal_is (child_table code) (child_table code) refl, shifted (rows_before c (child_table code)) r (adds before code)) refl
       | inr other ↦
-          let no : (child_table code == child_table e.code) ≡ false = equal_no _ _ (λ x. other (codes_same e.code code (add_low e.code a) (add_high e.code a) l h (sym x))) in
-          rw (tab, no, equal_no e.code code other) refl
+          let no : (child_table code == child_table e.operation) ≡ false = equal_no _ _ (λ x. other (codes_same e.operation code (add_low e.operation a) (add_high e.operation a) l h (sym x))) in
+          rw (tab, no, equal_no e.operation code other) refl
     ])
 
-pub kid_other : (e : Entry) (o : Option Entry) → is_add e.code ≡ false → kid e o ≡ []
+pub kid_other : (e : LogEntry) (o : Option LogEntry) → is_add e.operation ≡ false → kid e o ≡ []
 kid_other e None h = refl
 kid_other e (Some f) h = rw h refl
 
@@ -206,11 +206,11 @@ none_here : (low n r total : ℕ) (s : Bool) → s ≡ false → total ≡ hits 
 none_here low n r total true e h = absurd cc
 none_here low n r total false e h = let f : low + 0 ≡ low = omega arith in let g : 0 + n ≡ n = omega arith in rw g (rw f at h)
 
-pub not_code : (e : Entry) (code : ℕ) → is_add e.code ≡ false → 1 ≤ code → code ≤ 5 → (e.code == code) ≡ false
-not_code e code none l h = equal_no e.code code (λ same. let a : is_add code ≡ false = rw same at none in let b : nat_le 1 code ≡ true = grind (arith, nat_tests) in let d : nat_le code 5 ≡ true = grind (arith, nat_tests) in let f : true ≡ false = rw (b, d) at a in absurd cc)
+pub not_code : (e : LogEntry) (code : ℕ) → is_add e.operation ≡ false → 1 ≤ code → code ≤ 5 → (e.operation == code) ≡ false
+not_code e code none l h = equal_no e.operation code (λ same. let a : is_add code ≡ false = rw same at none in let b : nat_le 1 code ≡ true = grind (arith, nat_tests) in let d : nat_le code 5 ≡ true = grind (arith, nat_tests) in let f : true ≡ false = rw (b, d) at a in absurd cc)
 
 -- how often the pairs behind name a row: once from the first that is still to come on
-named_none : (c : Chain) (before : List Entry) (code r : ℕ) → count_by (is_token (new_row c (child_table code) r)) (children (counted [])) ≡ hits (adds before code) (adds [] code) r
+named_none : (c : Chain) (before : List LogEntry) (code r : ℕ) → count_by (is_token (new_row c (child_table code) r)) (children (counted [])) ≡ hits (adds before code) (adds [] code) r
 unfolding counted
 named_none c before code r = sym (hits_none (adds before code) r)
 
@@ -220,55 +220,55 @@ count_append p xs ys = sum_by-append (λ (t : Token). cond (p t) 1 0) xs ys
 sums : (a b d e : ℕ) → a ≡ d → b ≡ e → a + b ≡ d + e
 sums a b d e h k = omega arith
 
-named_step : (c : Chain) (before es : List Entry) (e : Entry) → (counts e ≡ true → is_add e.code ≡ true → follows c before e.code (find counts es) ≡ true) → (code r : ℕ) → 1 ≤ code → code ≤ 5 → count_by (is_token (new_row c (child_table code) r)) (children (counted es)) ≡ hits (adds (before ++ e ∷ []) code) (adds es code) r → count_by (is_token (new_row c (child_table code) r)) (children (counted (e ∷ es))) ≡ hits (adds before code) (adds (e ∷ es) code) r
+named_step : (c : Chain) (before es : List LogEntry) (e : LogEntry) → (counts e ≡ true → is_add e.operation ≡ true → follows c before e.operation (find counts es) ≡ true) → (code r : ℕ) → 1 ≤ code → code ≤ 5 → count_by (is_token (new_row c (child_table code) r)) (children (counted es)) ≡ hits (adds (before ++ e ∷ []) code) (adds es code) r → count_by (is_token (new_row c (child_table code) r)) (children (counted (e ∷ es))) ≡ hits (adds before code) (adds (e ∷ es) code) r
 named_step c before es e good code r l h behind =
     let p = is_token (new_row c (child_table code) r) in
     let low = adds before code in
     let n = adds es code in
     let rest = count_by p (children (counted es)) in
-    let head : hits low (cond (counts e && e.code == code) 1 0 + n) r ≡ hits low (adds (e ∷ es) code) r = ap (λ m. hits low m r) (sym (adds_head e es code)) in
-    let ih : rest ≡ hits (low + cond (counts e && e.code == code) 1 0) n r = behind ∙ ap (λ m. hits m n r) (adds_push before e code) in
+    let head : hits low (cond (counts e && e.operation == code) 1 0 + n) r ≡ hits low (adds (e ∷ es) code) r = ap (λ m. hits low m r) (sym (adds_head e es code)) in
+    let ih : rest ≡ hits (low + cond (counts e && e.operation == code) 1 0) n r = behind ∙ ap (λ m. hits m n r) (adds_push before e code) in
     elim (two (counts e)) [
       | inr off ↦
-          let b : (counts e && e.code == code) ≡ false = rw off refl in
-          ap (λ xs. count_by p (children xs)) (counted_no e es off) ∙ none_here low n r rest (counts e && e.code == code) b ih ∙ head
-      | inl on ↦ elim (two (is_add e.code)) [
+          let b : (counts e && e.operation == code) ≡ false = rw off refl in
+          ap (λ xs. count_by p (children xs)) (counted_no e es off) ∙ none_here low n r rest (counts e && e.operation == code) b ih ∙ head
+      | inl on ↦ elim (two (is_add e.operation)) [
         | inr other ↦
-            let b : (counts e && e.code == code) ≡ false = rw on (not_code e code other l h) in
-            ap (count_by p) (children_yes e es on ∙ ap (λ xs. xs ++ children (counted es)) (kid_other e (find counts es) other)) ∙ none_here low n r rest (counts e && e.code == code) b ih ∙ head
+            let b : (counts e && e.operation == code) ≡ false = rw on (not_code e code other l h) in
+            ap (count_by p) (children_yes e es on ∙ ap (λ xs. xs ++ children (counted es)) (kid_other e (find counts es) other)) ∙ none_here low n r rest (counts e && e.operation == code) b ih ∙ head
         | inl add ↦
-            let b : (counts e && e.code == code) ≡ (e.code == code) = rw on refl in
-            let here : count_by p (kid e (find counts es)) ≡ cond (e.code == code && r == low) 1 0 = kid_count c before e (find counts es) code r add (good on add) l h in
-            let there : rest ≡ hits (low + cond (e.code == code) 1 0) n r = ih ∙ ap (λ s. hits (low + cond s 1 0) n r) b in
-            ap (count_by p) (children_yes e es on) ∙ count_append p (kid e (find counts es)) (children (counted es)) ∙ sums _ _ _ _ here there ∙ step (e.code == code) low n r ∙ ap (λ s. hits low (cond s 1 0 + n) r) (sym b) ∙ head
+            let b : (counts e && e.operation == code) ≡ (e.operation == code) = rw on refl in
+            let here : count_by p (kid e (find counts es)) ≡ cond (e.operation == code && r == low) 1 0 = kid_count c before e (find counts es) code r add (good on add) l h in
+            let there : rest ≡ hits (low + cond (e.operation == code) 1 0) n r = ih ∙ ap (λ s. hits (low + cond s 1 0) n r) b in
+            ap (count_by p) (children_yes e es on) ∙ count_append p (kid e (find counts es)) (children (counted es)) ∙ sums _ _ _ _ here there ∙ step (e.operation == code) low n r ∙ ap (λ s. hits low (cond s 1 0 + n) r) (sym b) ∙ head
       ]
     ]
 
-pub named : (c : Chain) (before es : List Entry) → Good c before es → (code r : ℕ) → 1 ≤ code → code ≤ 5 → count_by (is_token (new_row c (child_table code) r)) (children (counted es)) ≡ hits (adds before code) (adds es code) r
+pub named : (c : Chain) (before es : List LogEntry) → Good c before es → (code r : ℕ) → 1 ≤ code → code ≤ 5 → count_by (is_token (new_row c (child_table code) r)) (children (counted es)) ≡ hits (adds before code) (adds es code) r
 named c before [] g code r l h = named_none c before code r
 named c before (e ∷ es) g code r l h = named_step c before es e g.0 code r l h (named c (before ++ e ∷ []) es g.1 code r l h)
 
-pub log_named : (c : Chain) (tokens : List Token) (log : List Entry) → log_fault c tokens log ≡ None → (code r : ℕ) → 1 ≤ code → code ≤ 5 → count_by (is_token (new_row c (child_table code) r)) (children (counted log)) ≡ hits 0 (adds log code) r
+pub log_named : (c : Chain) (tokens : List Token) (log : List LogEntry) → log_fault c tokens log ≡ None → (code r : ℕ) → 1 ≤ code → code ≤ 5 → count_by (is_token (new_row c (child_table code) r)) (children (counted log)) ≡ hits 0 (adds log code) r
 log_named c tokens log none code r l h = named c [] log (log_good c tokens log none) code r l h
 
 -- so the new rows up to the number of pairs are right, and the next isn't
-row_good : (c : Chain) (tokens : List Token) (log : List Entry) → log_fault c tokens log ≡ None → (code r : ℕ) → 1 ≤ code → code ≤ 5 → r < adds log code → child_fault_at c log (child_table code) r ≡ None
+row_good : (c : Chain) (tokens : List Token) (log : List LogEntry) → log_fault c tokens log ≡ None → (code r : ℕ) → 1 ≤ code → code ≤ 5 → r < adds log code → child_fault_at c log (child_table code) r ≡ None
 unfolding child_fault_at
 row_good c tokens log none code r l h less =
     let one : hits 0 (adds log code) r ≡ 1 = grind (arith, nat_tests) in
     rw (log_named c tokens log none code r l h ∙ one) refl
 
-row_bad : (c : Chain) (tokens : List Token) (log : List Entry) → log_fault c tokens log ≡ None → (code r : ℕ) → 1 ≤ code → code ≤ 5 → adds log code ≤ r → child_fault_at c log (child_table code) r ≡ Some (place.Row (new_row c (child_table code) r))
+row_bad : (c : Chain) (tokens : List Token) (log : List LogEntry) → log_fault c tokens log ≡ None → (code r : ℕ) → 1 ≤ code → code ≤ 5 → adds log code ≤ r → child_fault_at c log (child_table code) r ≡ Some (place.Row (new_row c (child_table code) r))
 unfolding child_fault_at
 row_bad c tokens log none code r l h past =
     let zero_times : hits 0 (adds log code) r ≡ 0 = grind (arith, nat_tests) in
     rw (log_named c tokens log none code r l h ∙ zero_times) refl
 
-pub all_named : (c : Chain) (tokens : List Token) (log : List Entry) (code : ℕ) → log_fault c tokens log ≡ None → 1 ≤ code → code ≤ 5 → inserts c tokens (child_table code) ≤ adds log code → None ≡ child_fault_in c tokens log (child_table code)
+pub all_named : (c : Chain) (tokens : List Token) (log : List LogEntry) (code : ℕ) → log_fault c tokens log ≡ None → 1 ≤ code → code ≤ 5 → inserts c tokens (child_table code) ≤ adds log code → None ≡ child_fault_in c tokens log (child_table code)
 unfolding child_fault_in
 all_named c tokens log code none l h le = sym (none_of (child_fault_at c log (child_table code)) (inserts c tokens (child_table code)) (λ k less. row_good c tokens log none code k l h (omega arith)))
 
-pub one_unnamed : (c : Chain) (tokens : List Token) (log : List Entry) (code : ℕ) → log_fault c tokens log ≡ None → 1 ≤ code → code ≤ 5 → adds log code < inserts c tokens (child_table code) → Some (place.Row (new_row c (child_table code) (adds log code))) ≡ child_fault_in c tokens log (child_table code)
+pub one_unnamed : (c : Chain) (tokens : List Token) (log : List LogEntry) (code : ℕ) → log_fault c tokens log ≡ None → 1 ≤ code → code ≤ 5 → adds log code < inserts c tokens (child_table code) → Some (place.Row (new_row c (child_table code) (adds log code))) ≡ child_fault_in c tokens log (child_table code)
 unfolding child_fault_in
 one_unnamed c tokens log code none l h less =
     let pairs = adds log code in
@@ -316,7 +316,7 @@ row_fits c tokens m table before pairs many none rows means is number less =
     let bound = room c tokens table none rows some in
     omega arith
 
-pub row_told : (c : Chain) (tokens : List Token) (log : List Entry) (m : Module) (code table before pairs many : ℕ) → log_fault c tokens log ≡ None → 1 ≤ code → code ≤ 5 → m ≡ c.plain → table ≡ child_table code → before ≡ length (rows_in m table) → many ≡ inserts c tokens table → pairs ≡ adds log code → pairs < many → Some (place.Row (record { table = table; row = before + pairs + 1 })) ≡ child_fault_in c tokens log (child_table code)
+pub row_told : (c : Chain) (tokens : List Token) (log : List LogEntry) (m : Module) (code table before pairs many : ℕ) → log_fault c tokens log ≡ None → 1 ≤ code → code ≤ 5 → m ≡ c.plain → table ≡ child_table code → before ≡ length (rows_in m table) → many ≡ inserts c tokens table → pairs ≡ adds log code → pairs < many → Some (place.Row (record { table = table; row = before + pairs + 1 })) ≡ child_fault_in c tokens log (child_table code)
 row_told c tokens log m code table before pairs many none l h means at is number of less =
     let same : before ≡ rows_before c (child_table code) = is ∙ ap (λ (n : Module). length (rows_in n table)) means ∙ ap (λ (t : ℕ). length (rows_in c.plain t)) at in
     let many_is : many ≡ inserts c tokens (child_table code) = number ∙ ap (inserts c tokens) at in

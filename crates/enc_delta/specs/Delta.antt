@@ -10,7 +10,7 @@ use Rattle.enc_meta.specs.Heaps.{part, heaps_of}
 use Rattle.enc_rows.specs.Sums.{below}
 use Rattle.enc_rows.specs.Layout.{Layout, rows_of, stream_tables}
 use Rattle.enc_rows.specs.Source.{Source, raw_in}
-use Rattle.enc_delta.specs.declared.entry.Entry.{Entry}
+use Rattle.enc_delta.specs.declared.log_entry.LogEntry.{LogEntry}
 use Rattle.enc_rows.specs.declared.form.Form.TheVariants as form
 use Rattle.enc_base.specs.Tables as tables
 use Rattle.enc_schema.specs.Columns as columns
@@ -20,17 +20,17 @@ abbrev pub is_module : Token → Bool
 is_module t = t.table == 0 && t.row == 1
 
 -- the i-th entry of EncLog and the i-th token of EncMap, i from 0
-unfoldable pub entry_at : Source → ℕ → Entry
+unfoldable pub entry_at : Source → ℕ → LogEntry
 entry_at s i = record {
   token = token_of (raw_in s (nth_row tables.enc_log i) columns.enc_log_token);
-  code = raw_in s (nth_row tables.enc_log i) columns.enc_log_func_code;
+  operation = raw_in s (nth_row tables.enc_log i) columns.enc_log_func_code;
 }
 
 unfoldable pub map_token : Source → ℕ → Token
 map_token s i = token_of (raw_in s (nth_row tables.enc_map i) columns.enc_map_token)
 
 -- EncLog and EncMap as they stand
-unfoldable pub log_in : Source → List Entry
+unfoldable pub log_in : Source → List LogEntry
 log_in s = map (entry_at s) (below (rows_of s.layout tables.enc_log))
 
 unfoldable pub map_in : Source → List Token

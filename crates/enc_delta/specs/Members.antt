@@ -12,7 +12,7 @@ use Rattle.enc_plain.specs.Module.{Module, kids_of}
 use Rattle.enc_plain.specs.Apply.{Attached}
 use Rattle.enc_delta.specs.declared.pairs.Pair.{Pair}
 use Rattle.enc_delta.specs.declared.shared.Keyed.{Keyed}
-use Rattle.enc_delta.specs.declared.entry.Entry.{Entry}
+use Rattle.enc_delta.specs.declared.log_entry.LogEntry.{LogEntry}
 use Rattle.enc_delta.specs.Cuts.{is_number_of}
 use Rattle.enc_delta.specs.Rules.{is_add}
 use Rattle.enc_delta.specs.Twins.{Asked, is_twin}
@@ -21,9 +21,9 @@ abbrev pub pair_seen : Pair → Attached
 pair_seen p = record { owner = p.owner; child = p.child }
 
 -- what an entry that counts gains by the last one before it
-abbrev pub pair_behind : Option Entry → Entry → List Pair
+abbrev pub pair_behind : Option LogEntry → LogEntry → List Pair
 pair_behind None f = []
-pair_behind (Some e) f = if is_add e.code then record { owner = e.token; child = f.token } ∷ [] else []
+pair_behind (Some e) f = if is_add e.operation then record { owner = e.token; child = f.token } ∷ [] else []
 
 -- the children have one owner and one table
 abbrev pub is_beside : Pair → Pair → Bool

@@ -19,7 +19,7 @@ use Rattle.enc_plain.specs.Reading.{Reading, cell_read}
 use Rattle.enc_plain.specs.Cell.{Cell, body}
 use Rattle.enc_plain.specs.Module.{cell_of}
 use Rattle.enc_plain.specs.Bodies.{body_loaded, body_is_good}
-use Rattle.enc_delta.specs.declared.entry.Entry.{Entry}
+use Rattle.enc_delta.specs.declared.log_entry.LogEntry.{LogEntry}
 use Rattle.enc_delta.specs.Delta.{listed, is_module, of_table}
 use Rattle.enc_base.specs.Tables as tables
 use Rattle.enc_schema.specs.Columns as columns
@@ -144,15 +144,15 @@ abbrev pub in_one : List ℕ → List ℕ → ℕ → Bool
 in_one ns ms n = not (stands_in ns n && stands_in ms n)
 
 -- the entries of a log that count: all but the Module's
-abbrev pub counts : Entry → Bool
+abbrev pub counts : LogEntry → Bool
 counts e = not (is_module e.token)
 
-unfoldable pub counted : List Entry → List Entry
+unfoldable pub counted : List LogEntry → List LogEntry
 counted log = filter counts log
 
 -- the tokens of the entries with code 0
-unfoldable pub changed : List Entry → List Token
-changed log = map (λ (e : Entry). e.token) (filter (λ (e : Entry). counts e && e.code == 0) log)
+unfoldable pub changed : List LogEntry → List Token
+changed log = map (λ (e : LogEntry). e.token) (filter (λ (e : LogEntry). counts e && e.operation == 0) log)
 
 -- E9: the sets of EncMap tokens and of tokens with code 0 differ
 unfoldable pub set_fault : List ℕ → List ℕ → Option Place
@@ -175,53 +175,53 @@ abbrev pub is_add : ℕ → Bool
 is_add code = nat_le 1 code && nat_le code 5
 
 -- the parent is a row after the delta
-unfoldable pub has_parent : Chain → List Token → Entry → Bool
-has_parent c tokens e = e.token.table == parent_table e.code && nat_le 1 e.token.row
+unfoldable pub has_parent : Chain → List Token → LogEntry → Bool
+has_parent c tokens e = e.token.table == parent_table e.operation && nat_le 1 e.token.row
     && nat_le e.token.row (rows_with c tokens e.token.table)
 
 -- how many of the entries are Add entries with this code
-abbrev pub adds : List Entry → ℕ → ℕ
-adds log code = count_by (λ (e : Entry). counts e && e.code == code) log
+abbrev pub adds : List LogEntry → ℕ → ℕ
+adds log code = count_by (λ (e : LogEntry). counts e && e.operation == code) log
 
 -- the entry that follows is code 0 with the next new row of the child's table
-unfoldable pub follows : Chain → List Entry → ℕ → Option Entry → Bool
+unfoldable pub follows : Chain → List LogEntry → ℕ → Option LogEntry → Bool
 follows c before code None = false
-follows c before code (Some e) = e.code == 0 && e.token.table == child_table code
+follows c before code (Some e) = e.operation == 0 && e.token.table == child_table code
     && e.token.row == rows_before c (child_table code) + adds before code + 1
 
 -- E10: a code past 5, or an Add entry without its parent or its child
-unfoldable pub log_fault_of : Chain → List Token → List Entry → List Entry → ℕ → Entry → Option Place
+unfoldable pub log_fault_of : Chain → List Token → List LogEntry → List LogEntry → ℕ → LogEntry → Option Place
 log_fault_of c tokens before behind k e =
-    broken (counts e && (nat_lt 5 e.code || is_add e.code
-    && not (has_parent c tokens e && follows c before e.code (find counts behind))))
+    broken (counts e && (nat_lt 5 e.operation || is_add e.operation
+    && not (has_parent c tokens e && follows c before e.operation (find counts behind))))
     (place.Log (k + 1))
 
-unfoldable pub log_fault_at : Chain → List Token → List Entry → ℕ → Option Place
+unfoldable pub log_fault_at : Chain → List Token → List LogEntry → ℕ → Option Place
 log_fault_at c tokens log k = option_and_then (log_fault_of c tokens (take k log) (drop (k + 1) log) k)
     (slice_get log k)
 
-unfoldable pub log_fault : Chain → List Token → List Entry → Option Place
+unfoldable pub log_fault : Chain → List Token → List LogEntry → Option Place
 log_fault c tokens log = first_below (log_fault_at c tokens log) (length log)
 
 -- the children of the Add entries, each the token of the entry behind
-abbrev pub children : List Entry → List Token
+abbrev pub children : List LogEntry → List Token
 children [] = []
 children (e ∷ []) = []
-children (e ∷ f ∷ es) = if is_add e.code then f.token ∷ children (f ∷ es) else children (f ∷ es)
+children (e ∷ f ∷ es) = if is_add e.operation then f.token ∷ children (f ∷ es) else children (f ∷ es)
 
 -- the r-th new row of a table, r from 0
 abbrev pub new_row : Chain → ℕ → ℕ → Token
 new_row c table r = record { table = table; row = rows_before c table + r + 1 }
 
 -- E11: a new row of a table of children hasn't exactly one Add entry
-unfoldable pub child_fault_at : Chain → List Entry → ℕ → ℕ → Option Place
+unfoldable pub child_fault_at : Chain → List LogEntry → ℕ → ℕ → Option Place
 child_fault_at c log table r =
     broken (not (count_by (is_token (new_row c table r)) (children (counted log)) == 1)) (place.Row (new_row c table r))
 
-unfoldable pub child_fault_in : Chain → List Token → List Entry → ℕ → Option Place
+unfoldable pub child_fault_in : Chain → List Token → List LogEntry → ℕ → Option Place
 child_fault_in c tokens log table = first_below (child_fault_at c log table) (inserts c tokens table)
 
-unfoldable pub child_fault : Chain → List Token → List Entry → Option Place
+unfoldable pub child_fault : Chain → List Token → List LogEntry → Option Place
 child_fault c tokens log =
     or_else (child_fault_in c tokens log tables.field)
     (or_else (child_fault_in c tokens log tables.method_def)

@@ -19,9 +19,9 @@ ghost use Rattle.enc_plain.specs.Module.{cells_of};
 ghost use Rattle.enc_plain.specs.Rows.{bytes_at, AreStoredAt};
 
 use crate::delta::Delta;
-use crate::entry::Entry;
 use crate::joined::entry_after;
 use crate::known::Known;
+use crate::log_entry::LogEntry;
 use crate::pairs::Pair;
 use crate::place::{has_number, number_of};
 use enc_base::{Counts, Token};
@@ -62,7 +62,7 @@ impl<C: ChainView> Context<'_, C> {
     }
 
     /// The entries of EncLog.
-    pub fn log(&self) -> &[Entry]
+    pub fn log(&self) -> &[LogEntry]
         ensures log { result.now ≡ log_in self.now.delta }
         ensures rows { AreEntries result.now }
         ensures few { length result.now < 2 ^ 24 }

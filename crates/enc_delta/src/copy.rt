@@ -2,13 +2,13 @@
 ghost use Rattle.std.specs.Prelude.{◌≡◌, ◌+◌, ◌<◌, ◌≤◌, ◌^◌, IfOk, IsTrue, length, nat_lt};
 ghost use Rattle.std.specs.List.{list_all};
 ghost use Rattle.enc_base.specs.declared.token.Token.{Token as TheToken};
-ghost use Rattle.enc_delta.specs.declared.entry.Entry.{Entry as TheEntry};
+ghost use Rattle.enc_delta.specs.declared.log_entry.LogEntry.{LogEntry as TheEntry};
 ghost use Rattle.enc_rows.specs.Layout.{rows_of};
 ghost use Rattle.enc_base.specs.Tables.{enc_map};
 ghost use Rattle.enc_delta.specs.Delta.{log_in, listed, is_module};
 
 use crate::delta::Delta;
-use crate::entry::Entry;
+use crate::log_entry::LogEntry;
 use enc_base::{Steps, Token};
 use std::alloc::{AllocError, Global};
 use std::sync::ledger::Ledger;
@@ -22,7 +22,7 @@ pub fn is_module(token: Token) -> bool
 
 /// The entries of EncLog.
 #[tactic(auto, using(crate::proofs::Listed::map_steps), unfolding(crate::specs::Delta::log_in))]
-pub fn log_of(delta: &Delta, alloc: Global) -> Result<Vec<Entry>, AllocError>
+pub fn log_of(delta: &Delta, alloc: Global) -> Result<Vec<LogEntry>, AllocError>
     ensures entries { IfOk result (λ l. l.items ≡ log_in delta.now) }
     ensures rows { IfOk result (λ l. IsTrue (list_all (λ (e : TheEntry). nat_lt e.token.row 0x1000000) l.items)) }
     ensures few { IfOk result (λ l. length l.items < 2 ^ 24) }

@@ -13,7 +13,7 @@ ghost use Rattle.enc_delta.specs.Seen.{ReadsDelta, IsDeltaOpened, IsRising, WasR
 ghost use Rattle.enc_base.specs.Tables.{enc_log, enc_map};
 
 use crate::code::{body_from, code_at};
-use crate::entry::Entry;
+use crate::log_entry::LogEntry;
 use crate::open::{Opened, is_rising, open};
 use enc_base::tables::{ENC_LOG, ENC_MAP};
 use enc_base::{ReadFault, Steps, Token};
@@ -198,7 +198,7 @@ impl Delta {
 
     /// An entry of EncLog, from 0.
     #[tactic(auto, unfolding(crate::specs::Delta::entry_at))]
-    pub fn log(&self, i: u32) -> Entry
+    pub fn log(&self, i: u32) -> LogEntry
         requires there { i < rows_of self.now.layout enc_log }
         requires few { i < 2 ^ 24 }
         ensures entry { slice_get (log_in self.now) i ≡ Some result }
@@ -206,9 +206,9 @@ impl Delta {
         ensures row { result.token.row < 2 ^ 24 }
     {
         let row = nth_row(ENC_LOG, i);
-        Entry {
+        LogEntry {
             token: Token::of(self.cell(row, ENC_LOG_TOKEN)),
-            code: self.cell(row, ENC_LOG_FUNC_CODE),
+            operation: self.cell(row, ENC_LOG_FUNC_CODE),
         }
     }
 

@@ -5,7 +5,7 @@ ghost use Rattle.enc_delta.specs.Context.{IsKnown};
 
 use crate::copy::log_of;
 use crate::delta::Delta;
-use crate::entry::Entry;
+use crate::log_entry::LogEntry;
 use crate::pairs::{Pair, attached_of};
 use enc_base::{Counts, Token};
 use enc_meta::HeapLengths;
@@ -19,7 +19,7 @@ use std::alloc::{AllocError, Global};
 pub struct Known {
     pub before: HeapLengths,
     pub tokens: Vec<Token>,
-    pub log: Vec<Entry>,
+    pub log: Vec<LogEntry>,
     pub pairs: Vec<Pair>,
     pub inserts: [usize; 256],
     pub counts: Counts,

@@ -10,8 +10,8 @@ ghost use Rattle.enc_delta.specs.Rules.{at_token, lesser, least, late, late_faul
 
 use crate::context::Context;
 use crate::copy::is_module;
-use crate::entry::Entry;
 use crate::known::is_insert;
+use crate::log_entry::LogEntry;
 use enc_base::tables::{
     EVENT, EVENT_MAP, FIELD, METHOD_DEF, PARAM, PROPERTY, PROPERTY_MAP, TYPE_DEF,
 };
@@ -110,21 +110,21 @@ pub fn skipped_row<C: ChainView>(context: &Context<'_, C>) -> Option<Place>
 }
 
 /// Whether an entry counts: its token isn't the Module's.
-fn counts(entry: Entry) -> bool
+fn counts(entry: LogEntry) -> bool
     ensures { result ≡ counts entry }
 {
     !is_module(entry.token)
 }
 
 /// Whether an entry counts and has code 0.
-fn is_change(entry: Entry) -> bool
-    ensures { result ≡ (counts entry && entry.code == 0) }
+fn is_change(entry: LogEntry) -> bool
+    ensures { result ≡ (counts entry && entry.operation == 0) }
 {
-    counts(entry) && entry.code == 0
+    counts(entry) && entry.operation == 0
 }
 
 /// The tokens of the entries with code 0.
-fn changed_of(alloc: Global, log: &[Entry]) -> Result<Vec<Token>, AllocError>
+fn changed_of(alloc: Global, log: &[LogEntry]) -> Result<Vec<Token>, AllocError>
     requires rows { AreEntries log.now }
     ensures tokens { IfOk result (λ l. l.items ≡ changed log.now) }
     ensures rows { IfOk result (λ l. AreTokens l.items) }
@@ -272,21 +272,21 @@ fn child_table(code: u32) -> u8
 }
 
 /// Whether the token of an Add entry is a row of its parent's table after the delta.
-fn parent_in(parents: &[u64; 6], entry: Entry) -> bool
-    requires { entry.code ≤ 5 }
+fn parent_in(parents: &[u64; 6], entry: LogEntry) -> bool
+    requires { entry.operation ≤ 5 }
     ensures { result ≡ parent_in parents.now entry }
 {
-    entry.token.table == parent_table(entry.code)
+    entry.token.table == parent_table(entry.operation)
         && entry.token.row >= 1
-        && u64::from(entry.token.row) <= parents[entry.code as usize]
+        && u64::from(entry.token.row) <= parents[entry.operation as usize]
 }
 
 /// Whether an entry is there, has code 0 and this row.
-fn next_is(table: u8, row: u64, next: Option<Entry>) -> bool
+fn next_is(table: u8, row: u64, next: Option<LogEntry>) -> bool
     ensures { result ≡ next_is table row next }
 {
     match next {
-        Some(entry) => entry.code == 0
+        Some(entry) => entry.operation == 0
             && entry.token.table == table
             && u64::from(entry.token.row) == row,
         None => false,
@@ -294,7 +294,7 @@ fn next_is(table: u8, row: u64, next: Option<Entry>) -> bool
 }
 
 /// The first entry that counts from a place on.
-fn next_counting(log: &[Entry], from: usize) -> Option<Entry>
+fn next_counting(log: &[LogEntry], from: usize) -> Option<LogEntry>
     requires { from ≤ length log.now }
     ensures { result ≡ find counts (drop from log.now) }
 {
@@ -312,18 +312,18 @@ fn is_pair<C: ChainView>(
     chain: &C,
     parents: &[u64; 6],
     pairs: u32,
-    entry: Entry,
-    log: &[Entry],
+    entry: LogEntry,
+    log: &[LogEntry],
     from: usize,
 ) -> bool
-    requires code { entry.code ≤ 5 }
+    requires code { entry.operation ≤ 5 }
     requires from { from ≤ length log.now }
     ensures { result ≡ is_pair (C.chain chain.now) parents.now pairs (drop from log.now) entry }
 {
     if !parent_in(parents, entry) {
         return false;
     }
-    let table = child_table(entry.code);
+    let table = child_table(entry.operation);
     let row = u64::from(chain.count(table)) + u64::from(pairs) + 1;
     next_is(table, row, next_counting(log, from))
 }
@@ -338,7 +338,7 @@ fn log_place(k: usize) -> Place
 
 /// The first entry of the log that counts and is neither a change nor an Add entry with its parent
 /// and its child.
-fn log_fault<C: ChainView>(chain: &C, listed: &[Token], log: &[Entry]) -> Option<Place>
+fn log_fault<C: ChainView>(chain: &C, listed: &[Token], log: &[LogEntry]) -> Option<Place>
     requires few { length log.now < 2 ^ 32 }
     ensures { result ≡ log_fault (C.chain chain.now) listed.now log.now }
 {
@@ -347,15 +347,15 @@ fn log_fault<C: ChainView>(chain: &C, listed: &[Token], log: &[Entry]) -> Option
     for k in 0..log.len() {
         let entry = log[k];
         if counts(entry) {
-            if entry.code > 5 {
+            if entry.operation > 5 {
                 return Some(log_place(k));
             }
-            if entry.code != 0 {
-                let before = pairs[entry.code as usize];
+            if entry.operation != 0 {
+                let before = pairs[entry.operation as usize];
                 if !is_pair(chain, &rows, before, entry, log, k + 1) {
                     return Some(log_place(k));
                 }
-                pairs[entry.code as usize] = before + 1;
+                pairs[entry.operation as usize] = before + 1;
             }
         }
     }
@@ -371,7 +371,7 @@ pub fn bad_entry<C: ChainView>(context: &Context<'_, C>) -> Option<Place>
 }
 
 /// How many Add entries have a code.
-fn adds(log: &[Entry], code: u32) -> u64
+fn adds(log: &[LogEntry], code: u32) -> u64
     ensures number { result ≡ adds log.now code }
     ensures few { result ≤ length log.now }
 {
@@ -385,17 +385,17 @@ fn adds(log: &[Entry], code: u32) -> u64
 }
 
 /// Whether an entry counts and has a code.
-fn has_code(entry: Entry, code: u32) -> bool
-    ensures { result ≡ (counts entry && entry.code == code) }
+fn has_code(entry: LogEntry, code: u32) -> bool
+    ensures { result ≡ (counts entry && entry.operation == code) }
 {
-    counts(entry) && entry.code == code
+    counts(entry) && entry.operation == code
 }
 
 /// The first new row of a child's table without its one Add entry.
 fn child_fault_in<C: ChainView>(
     chain: &C,
     listed: &[Token],
-    log: &[Entry],
+    log: &[LogEntry],
     code: u32,
 ) -> Option<Place>
     requires rows { AreTokens listed.now }
@@ -416,7 +416,7 @@ fn child_fault_in<C: ChainView>(
 
 /// The first new row of a table of children without its one Add entry.
 #[tactic(auto, unfolding(crate::specs::Rules::child_fault))]
-fn child_fault<C: ChainView>(chain: &C, listed: &[Token], log: &[Entry]) -> Option<Place>
+fn child_fault<C: ChainView>(chain: &C, listed: &[Token], log: &[LogEntry]) -> Option<Place>
     requires rows { AreTokens listed.now }
     requires inserts { insert_fault (C.chain chain.now) listed.now ≡ None }
     requires log { log_fault (C.chain chain.now) listed.now log.now ≡ None }

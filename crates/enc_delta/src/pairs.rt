@@ -8,7 +8,7 @@ ghost use Rattle.enc_delta.specs.Rules.{counted, is_add};
 
 use crate::copy::is_module;
 use crate::delta::Delta;
-use crate::entry::Entry;
+use crate::log_entry::LogEntry;
 use enc_base::Token;
 use std::alloc::{AllocError, Global};
 
@@ -27,13 +27,17 @@ fn is_add(code: u32) -> bool
 }
 
 /// Adds the pair of an entry and of the last one before it, if that is an Add entry.
-fn add_pair(pairs: &mut Vec<Pair>, last: Option<Entry>, entry: Entry) -> Result<(), AllocError>
+fn add_pair(
+    pairs: &mut Vec<Pair>,
+    last: Option<LogEntry>,
+    entry: LogEntry,
+) -> Result<(), AllocError>
     ensures { IfOk result (λ _. pairs.new.items ≡ pairs.old.items ++ pair_behind last entry) }
 {
     let Some(before) = last else {
         return Ok(());
     };
-    if !is_add(before.code) {
+    if !is_add(before.operation) {
         return Ok(());
     }
     pairs.push(Pair {
@@ -45,11 +49,11 @@ fn add_pair(pairs: &mut Vec<Pair>, last: Option<Entry>, entry: Entry) -> Result<
 
 /// The children of the Add entries with their owners, in the order of the log; the Module's entries
 /// are passed over.
-pub fn pairs_of(alloc: Global, log: &[Entry]) -> Result<Vec<Pair>, AllocError>
+pub fn pairs_of(alloc: Global, log: &[LogEntry]) -> Result<Vec<Pair>, AllocError>
     ensures { IfOk result (λ p. map pair_seen p.items ≡ pairs_in (counted log.now)) }
 {
     let mut pairs = Vec::new(alloc);
-    let mut last: Option<Entry> = None;
+    let mut last: Option<LogEntry> = None;
     for k in 0..log.len() {
         let entry = log[k];
         if !is_module(entry.token) {
@@ -62,7 +66,7 @@ pub fn pairs_of(alloc: Global, log: &[Entry]) -> Result<Vec<Pair>, AllocError>
 
 /// The children that the Add entries of a delta's log give to their owners.
 #[tactic(auto, using(crate::proofs::PairsIn::pairs_fit), unfolding(crate::specs::Pairs::attached_of))]
-pub fn attached_of(alloc: Global, delta: &Delta, log: &[Entry]) -> Result<Vec<Pair>, AllocError>
+pub fn attached_of(alloc: Global, delta: &Delta, log: &[LogEntry]) -> Result<Vec<Pair>, AllocError>
     requires log { log.now ≡ log_in delta.now }
     requires rows { AreEntries log.now }
     ensures pairs { IfOk result (λ p. map pair_seen p.items ≡ attached_of delta.now) }

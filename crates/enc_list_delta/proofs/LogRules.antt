@@ -6,7 +6,7 @@ use Rattle.enc_base.specs.declared.token.Token.{Token}
 use Rattle.enc_rows.specs.Source.{Source}
 use Rattle.enc_schema.specs.Children.{is_child_table}
 use Rattle.enc_plain.specs.Chain.{Chain}
-use Rattle.enc_delta.specs.declared.entry.Entry.{Entry}
+use Rattle.enc_delta.specs.declared.log_entry.LogEntry.{LogEntry}
 use Rattle.enc_delta.specs.Delta.{is_module, listed}
 use Rattle.enc_delta.specs.Judged.{bad_entry, unowned_child}
 use Rattle.enc_delta.specs.Rules.{inserts, rows_with, child_table, adds, log_fault, child_fault_in, child_fault}
@@ -28,14 +28,14 @@ use Rattle.enc_list_delta.proofs.LogRulesGood.{Good, good_append, good_log, is_c
 use Rattle.enc_list_delta.proofs.LogRulesCounted.{no_more, edit_adds, reference_adds, reference_own}
 
 -- entries of which none is a fault, behind which the log is counted
-record Goes (c : Chain) (tokens : List Token) (before entries behind : List Entry) (edits : List Edit) : Type 0 where
+record Goes (c : Chain) (tokens : List Token) (before entries behind : List LogEntry) (edits : List Edit) : Type 0 where
   good : Good c tokens before entries behind
   counted : Counted (before ++ entries) edits
 
-goes_none : (c : Chain) (tokens : List Token) (before behind : List Entry) (edits : List Edit) → Counted before edits → Goes c tokens before [] behind edits
+goes_none : (c : Chain) (tokens : List Token) (before behind : List LogEntry) (edits : List Edit) → Counted before edits → Goes c tokens before [] behind edits
 goes_none c tokens before behind edits counted = record { good = tt; counted = rw (append-nil before) counted }
 
-goes_append : (c : Chain) (tokens : List Token) (before xs ys behind : List Entry) (edits : List Edit) → Good c tokens before xs (ys ++ behind) → Goes c tokens (before ++ xs) ys behind edits → Goes c tokens before (xs ++ ys) behind edits
+goes_append : (c : Chain) (tokens : List Token) (before xs ys behind : List LogEntry) (edits : List Edit) → Good c tokens before xs (ys ++ behind) → Goes c tokens (before ++ xs) ys behind edits → Goes c tokens before (xs ++ ys) behind edits
 goes_append c tokens before xs ys behind edits first g = record {
   good = good_append c tokens before xs ys behind first g.good;
   counted = rw (← append_assoc before xs ys) g.counted;
@@ -46,7 +46,7 @@ abbrev RowsAfter : Chain → EditList → List Token → Type 0
 RowsAfter c l tokens = (t : ℕ) → rows_with c tokens t ≡ count_after c l.edits t
 
 -- the entries of references
-references_by : (c : Chain) (l : EditList) (tokens : List Token) (before : List Edit) (entries xs behind : List Entry) (e : Edit) (b : Bool) → adds_reference e ≡ b → Entries c l before e (row_edited c.plain before e) → Counted entries [] → ((more : List Entry) → Counted more [] → Goes c tokens more xs behind []) → Goes c tokens entries (entries_if b (entries_for e (row_edited c.plain before e)) ++ xs) behind []
+references_by : (c : Chain) (l : EditList) (tokens : List Token) (before : List Edit) (entries xs behind : List LogEntry) (e : Edit) (b : Bool) → adds_reference e ≡ b → Entries c l before e (row_edited c.plain before e) → Counted entries [] → ((more : List LogEntry) → Counted more [] → Goes c tokens more xs behind []) → Goes c tokens entries (entries_if b (entries_for e (row_edited c.plain before e)) ++ xs) behind []
 references_by c l tokens before entries xs behind e false is w counted rest = rest entries counted
 references_by c l tokens before entries xs behind e true is w counted rest =
     let row = row_edited c.plain before e in
@@ -54,7 +54,7 @@ references_by c l tokens before entries xs behind e true is w counted rest =
     (reference_good c l tokens before entries (xs ++ behind) e row is w)
     (rest (entries ++ entries_for e row) (λ t child. reference_own c l before entries e row t child is w ∙ counted t child))
 
-references_go : (c : Chain) (l : EditList) (tokens : List Token) (before rest : List Edit) (entries behind : List Entry) → BreakNothing c l → l.edits ≡ before ++ rest → Counted entries [] → Goes c tokens entries (entries_behind adds_reference c.plain before rest) behind []
+references_go : (c : Chain) (l : EditList) (tokens : List Token) (before rest : List Edit) (entries behind : List LogEntry) → BreakNothing c l → l.edits ≡ before ++ rest → Counted entries [] → Goes c tokens entries (entries_behind adds_reference c.plain before rest) behind []
 unfolding entries_behind
 references_go c l tokens before [] entries behind none is counted = goes_none c tokens entries behind [] counted
 references_go c l tokens before (e ∷ rest) entries behind none is counted =
@@ -62,7 +62,7 @@ references_go c l tokens before (e ∷ rest) entries behind none is counted =
     (λ more h. references_go c l tokens (before ++ e ∷ []) rest more behind none (is ∙ sym (append_assoc before (e ∷ []) rest)) h)
 
 -- and those of all other edits
-others_by : (c : Chain) (l : EditList) (tokens : List Token) (before : List Edit) (entries xs behind : List Entry) (e : Edit) (b : Bool) → RowsAfter c l tokens → adds_reference e ≡ b → is_module (row_edited c.plain before e) ≡ false → Entries c l before e (row_edited c.plain before e) → Counted entries before → ((more : List Entry) → Counted more (before ++ e ∷ []) → Goes c tokens more xs behind l.edits) → Goes c tokens entries (entries_if (not b) (entries_for e (row_edited c.plain before e)) ++ xs) behind l.edits
+others_by : (c : Chain) (l : EditList) (tokens : List Token) (before : List Edit) (entries xs behind : List LogEntry) (e : Edit) (b : Bool) → RowsAfter c l tokens → adds_reference e ≡ b → is_module (row_edited c.plain before e) ≡ false → Entries c l before e (row_edited c.plain before e) → Counted entries before → ((more : List LogEntry) → Counted more (before ++ e ∷ []) → Goes c tokens more xs behind l.edits) → Goes c tokens entries (entries_if (not b) (entries_for e (row_edited c.plain before e)) ++ xs) behind l.edits
 others_by c l tokens before entries xs behind e true rows is other w counted more =
     more entries (λ t child. counted t child ∙ sym (no_more before e t (reference_adds c l before e (row_edited c.plain before e) t child is w)))
 others_by c l tokens before entries xs behind e false rows is other w counted more =
@@ -71,7 +71,7 @@ others_by c l tokens before entries xs behind e false rows is other w counted mo
     (edit_good c l tokens before entries (xs ++ behind) e row rows other counted w)
     (more (entries ++ entries_for e row) (edit_adds c l before entries e row counted w))
 
-others_go : (c : Chain) (l : EditList) (tokens : List Token) (before rest : List Edit) (entries behind : List Entry) → BreakNothing c l → RowsAfter c l tokens → l.edits ≡ before ++ rest → Counted entries before → Goes c tokens entries (entries_behind (λ e. not (adds_reference e)) c.plain before rest) behind l.edits
+others_go : (c : Chain) (l : EditList) (tokens : List Token) (before rest : List Edit) (entries behind : List LogEntry) → BreakNothing c l → RowsAfter c l tokens → l.edits ≡ before ++ rest → Counted entries before → Goes c tokens entries (entries_behind (λ e. not (adds_reference e)) c.plain before rest) behind l.edits
 unfolding entries_behind
 others_go c l tokens before [] entries behind none rows is counted = goes_none c tokens entries behind l.edits (rw (is, append-nil before) counted)
 others_go c l tokens before (e ∷ rest) entries behind none rows is counted =

@@ -5,7 +5,7 @@ use Rattle.std.proofs.lemmas.Bool.Decides.{nat_tests}
 use Rattle.enc_base.specs.declared.token.Token.{Token}
 use Rattle.enc_schema.specs.Children.{is_child_table}
 use Rattle.enc_plain.specs.Chain.{Chain}
-use Rattle.enc_delta.specs.declared.entry.Entry.{Entry}
+use Rattle.enc_delta.specs.declared.log_entry.LogEntry.{LogEntry}
 use Rattle.enc_delta.specs.Rules.{adds, counts}
 use Rattle.enc_delta.proofs.ListsChildren.{adds_push}
 use Rattle.enc_edit_list.specs.Added.{adds_to, rows_added}
@@ -22,13 +22,13 @@ none_here : (n : ℕ) (a : Bool) → n + cond (a && false) 1 0 ≡ n
 none_here n true = omega arith
 none_here n false = omega arith
 
-own_adds : (entries : List Entry) (row : Token) (t : ℕ) → is_child_table t ≡ true → adds (entries ++ own_entry row ∷ []) (add_code t) ≡ adds entries (add_code t)
+own_adds : (entries : List LogEntry) (row : Token) (t : ℕ) → is_child_table t ≡ true → adds (entries ++ own_entry row ∷ []) (add_code t) ≡ adds entries (add_code t)
 own_adds entries row t child =
     let low = (is_code t child).low in
     let other : (0 == add_code t) ≡ false = grind (arith, nat_tests, low) in
     adds_push entries (own_entry row) (add_code t) ∙ (rw other (none_here (adds entries (add_code t)) (counts (own_entry row))))
 
-owner_adds : (entries : List Entry) (owner : Token) (table t : ℕ) → counts (owner_entry owner table) ≡ true → is_child_table t ≡ true → is_child_table table ≡ true → adds (entries ++ owner_entry owner table ∷ []) (add_code t) ≡ adds entries (add_code t) + cond (table == t) 1 0
+owner_adds : (entries : List LogEntry) (owner : Token) (table t : ℕ) → counts (owner_entry owner table) ≡ true → is_child_table t ≡ true → is_child_table table ≡ true → adds (entries ++ owner_entry owner table ∷ []) (add_code t) ≡ adds entries (add_code t) + cond (table == t) 1 0
 owner_adds entries owner table t count child own =
     adds_push entries (owner_entry owner table) (add_code t) ∙ (rw (count, codes_apart t table child own) refl)
 
@@ -39,7 +39,7 @@ same_sum n m false e = rw e refl
 pub no_more : (before : List Edit) (e : Edit) (t : ℕ) → adds_to t e ≡ false → rows_added (before ++ e ∷ []) t ≡ rows_added before t
 no_more before e t h = added_more before e t ∙ (rw h (omega arith))
 
-pub edit_adds : (c : Chain) (l : EditList) (before : List Edit) (entries : List Entry) (e : Edit) (row : Token) → Counted entries before → Entries c l before e row → Counted (entries ++ entries_for e row) (before ++ e ∷ [])
+pub edit_adds : (c : Chain) (l : EditList) (before : List Edit) (entries : List LogEntry) (e : Edit) (row : Token) → Counted entries before → Entries c l before e row → Counted (entries ++ entries_for e row) (before ++ e ∷ [])
 edit_adds c l before entries e row counted (alone a) = λ t child.
     rw (a.entries, no_more before e t (a.adds t child)) (own_adds entries row t child ∙ counted t child)
 edit_adds c l before entries e row counted (paired owner table p) = λ t child.
@@ -53,6 +53,6 @@ pub reference_adds : (c : Chain) (l : EditList) (before : List Edit) (e : Edit) 
 reference_adds c l before e row t child h (alone a) = a.adds t child
 reference_adds c l before e row t child h (paired owner table p) = let f : true ≡ false = sym h ∙ p.other in absurd cc
 
-pub reference_own : (c : Chain) (l : EditList) (before : List Edit) (entries : List Entry) (e : Edit) (row : Token) (t : ℕ) → is_child_table t ≡ true → adds_reference e ≡ true → Entries c l before e row → adds (entries ++ entries_for e row) (add_code t) ≡ adds entries (add_code t)
+pub reference_own : (c : Chain) (l : EditList) (before : List Edit) (entries : List LogEntry) (e : Edit) (row : Token) (t : ℕ) → is_child_table t ≡ true → adds_reference e ≡ true → Entries c l before e row → adds (entries ++ entries_for e row) (add_code t) ≡ adds entries (add_code t)
 reference_own c l before entries e row t child h (alone a) = rw a.entries (own_adds entries row t child)
 reference_own c l before entries e row t child h (paired owner table p) = let f : true ≡ false = sym h ∙ p.other in absurd cc

@@ -7,7 +7,7 @@ use Rattle.enc_schema.specs.Children.{is_child_table, owner_table}
 use Rattle.enc_schema.proofs.ChildTables.{by_child}
 use Rattle.enc_plain.specs.Chain.{Chain}
 use Rattle.enc_plain.specs.Sound.{row_count}
-use Rattle.enc_delta.specs.declared.entry.Entry.{Entry}
+use Rattle.enc_delta.specs.declared.log_entry.LogEntry.{LogEntry}
 use Rattle.enc_delta.specs.Delta.{is_module}
 use Rattle.enc_delta.specs.Rules.{counts}
 use Rattle.enc_edit_list.specs.Added.{adds_to, rows_added}
@@ -24,11 +24,11 @@ use Rattle.enc_list_delta.specs.Delta.{add_code, entries_for, is_reference_table
 use Rattle.enc_list_delta.proofs.TokensAbout.{edit_about, stands_after}
 
 -- the entry of a row itself, and that which gives its owner a child of a table
-abbrev pub own_entry : Token → Entry
-own_entry row = record { token = row; code = 0 }
+abbrev pub own_entry : Token → LogEntry
+own_entry row = record { token = row; operation = 0 }
 
-abbrev pub owner_entry : Token → ℕ → Entry
-owner_entry owner table = record { token = owner; code = add_code table }
+abbrev pub owner_entry : Token → ℕ → LogEntry
+owner_entry owner table = record { token = owner; operation = add_code table }
 
 -- an edit whose row has no owner
 pub record IsAlone (e : Edit) (row : Token) : Type 0 where

@@ -10,7 +10,7 @@ use Rattle.enc_base.specs.declared.token.Token.{Token}
 use Rattle.enc_schema.specs.Children.{is_child_table, owner_table}
 use Rattle.enc_schema.proofs.ChildTables.{by_child}
 use Rattle.enc_plain.specs.Chain.{Chain, rows_before}
-use Rattle.enc_delta.specs.declared.entry.Entry.{Entry}
+use Rattle.enc_delta.specs.declared.log_entry.LogEntry.{LogEntry}
 use Rattle.enc_delta.specs.Delta.{is_module}
 use Rattle.enc_delta.specs.Rules.{broken, rows_with, parent_table, child_table, is_add, has_parent, adds, counts, follows, log_fault_of, log_fault_at, log_fault}
 use Rattle.enc_delta.proofs.ListsChildren.{at_seam}
@@ -24,16 +24,16 @@ use Rattle.enc_list_delta.proofs.TokensInserts.{all_silent}
 use Rattle.enc_list_delta.proofs.LogRulesEdits.{own_entry, owner_entry, IsPaired, Entries, alone, paired, own_counts}
 
 -- entries behind others and before others of which none is a fault
-abbrev pub Good : Chain → List Token → List Entry → List Entry → List Entry → Type 0
+abbrev pub Good : Chain → List Token → List LogEntry → List LogEntry → List LogEntry → Type 0
 Good c tokens before [] behind = Unit {0}
 Good c tokens before (e ∷ es) behind = ((k : ℕ) → log_fault_of c tokens before (es ++ behind) k e ≡ None) × Good c tokens (before ++ e ∷ []) es behind
 
-pub good_append : (c : Chain) (tokens : List Token) (before xs ys behind : List Entry) → Good c tokens before xs (ys ++ behind) → Good c tokens (before ++ xs) ys behind → Good c tokens before (xs ++ ys) behind
+pub good_append : (c : Chain) (tokens : List Token) (before xs ys behind : List LogEntry) → Good c tokens before xs (ys ++ behind) → Good c tokens (before ++ xs) ys behind → Good c tokens before (xs ++ ys) behind
 good_append c tokens before [] ys behind h g = rw append-nil at g
 good_append c tokens before (x ∷ xs) ys behind h g =
     (λ k. rw (append_assoc xs ys behind) (h.0 k), good_append c tokens (before ++ x ∷ []) xs ys behind h.1 (rw (append_assoc before (x ∷ []) xs) g))
 
-good_at : (c : Chain) (tokens : List Token) (before es : List Entry) → Good c tokens before es [] → (k : ℕ) → length before ≤ k → k < length (before ++ es) → log_fault_at c tokens (before ++ es) k ≡ None
+good_at : (c : Chain) (tokens : List Token) (before es : List LogEntry) → Good c tokens before es [] → (k : ℕ) → length before ≤ k → k < length (before ++ es) → log_fault_at c tokens (before ++ es) k ≡ None
 good_at c tokens before [] good k low high = let e = length-append before [] in absurd (omega (arith, e, low, high))
 good_at c tokens before (e ∷ es) good k low high = elim (cases_lt (length before) k) [
   | inl past ↦
@@ -45,7 +45,7 @@ good_at c tokens before (e ∷ es) good k low high = elim (cases_lt (length befo
       rw is (at_seam c tokens before e es ∙ first)
 ]
 
-pub good_log : (c : Chain) (tokens : List Token) (log : List Entry) → Good c tokens [] log [] → log_fault c tokens log ≡ None
+pub good_log : (c : Chain) (tokens : List Token) (log : List LogEntry) → Good c tokens [] log [] → log_fault c tokens log ≡ None
 unfolding log_fault
 good_log c tokens log good = all_silent (log_fault_at c tokens log) (length log) (λ k low. good_at c tokens [] log good k (omega arith) low)
 
@@ -54,7 +54,7 @@ plain : (p : Place) (a : Bool) → broken (a && false) p ≡ None
 plain p true = refl
 plain p false = refl
 
-own_good : (c : Chain) (tokens : List Token) (before behind : List Entry) (k : ℕ) (row : Token) → log_fault_of c tokens before behind k (own_entry row) ≡ None
+own_good : (c : Chain) (tokens : List Token) (before behind : List LogEntry) (k : ℕ) (row : Token) → log_fault_of c tokens before behind k (own_entry row) ≡ None
 unfolding log_fault_of
 own_good c tokens before behind k row = plain (place.Log (k + 1)) (counts (own_entry row))
 
@@ -84,7 +84,7 @@ codes_apart t table child own = by_child (λ k. (add_code table == add_code k) �
     (by_child (λ j. (add_code j == add_code 0x17) ≡ (j == 0x17)) refl refl refl refl refl table own) t child
 
 -- what is known of the log so far: of each child table as many entries give a child as edits add rows
-abbrev pub Counted : List Entry → List Edit → Type 0
+abbrev pub Counted : List LogEntry → List Edit → Type 0
 Counted before edits = (t : ℕ) → is_child_table t ≡ true → adds before (add_code t) ≡ rows_added edits t
 
 -- the parent is a row of its table
@@ -100,7 +100,7 @@ unfolding has_parent
 parent_there c l tokens owner table rows child there = rw ((is_code table child).parent, rows owner.table) (rows_by (count_after c l.edits) owner.table (owner_table table) owner.row there)
 
 -- the child's own entry follows, and is the next new row of its table
-child_follows : (c : Chain) (l : EditList) (before : List Edit) (entries : List Entry) (e : Edit) (row owner : Token) (table : ℕ) → IsPaired c l before e row owner table → Counted entries before → follows c entries (add_code table) (Some (own_entry row)) ≡ true
+child_follows : (c : Chain) (l : EditList) (before : List Edit) (entries : List LogEntry) (e : Edit) (row owner : Token) (table : ℕ) → IsPaired c l before e row owner table → Counted entries before → follows c entries (add_code table) (Some (own_entry row)) ≡ true
 unfolding follows
 child_follows c l before entries e row owner table p counted =
     let own : (row.table == table) ≡ true = rw p.own (grind (arith, nat_tests)) in
@@ -109,7 +109,7 @@ child_follows c l before entries e row owner table p counted =
     rw ((is_code table p.child).child, own, number) refl
 
 -- the entries of an edit are no fault
-pub edit_good : (c : Chain) (l : EditList) (tokens : List Token) (before : List Edit) (entries behind : List Entry) (e : Edit) (row : Token) → ((t : ℕ) → rows_with c tokens t ≡ count_after c l.edits t) → is_module row ≡ false → Counted entries before → Entries c l before e row → Good c tokens entries (entries_for e row) behind
+pub edit_good : (c : Chain) (l : EditList) (tokens : List Token) (before : List Edit) (entries behind : List LogEntry) (e : Edit) (row : Token) → ((t : ℕ) → rows_with c tokens t ≡ count_after c l.edits t) → is_module row ≡ false → Counted entries before → Entries c l before e row → Good c tokens entries (entries_for e row) behind
 unfolding log_fault_of
 edit_good c l tokens before entries behind e row rows other counted (alone a) = rw a.entries (λ k. own_good c tokens entries behind k row, tt)
 edit_good c l tokens before entries behind e row rows other counted (paired owner table p) =
@@ -119,6 +119,6 @@ edit_good c l tokens before entries behind e row rows other counted (paired owne
     rw p.entries (λ k. rw ((is_code table p.child).few, first, parent, child) (paired_good (place.Log (k + 1)) (counts (owner_entry owner table)) (is_add (add_code table)) true), (λ k. own_good c tokens (entries ++ owner_entry owner table ∷ []) behind k row, tt))
 
 -- an edit that adds a reference has but its row's entry
-pub reference_good : (c : Chain) (l : EditList) (tokens : List Token) (before : List Edit) (entries behind : List Entry) (e : Edit) (row : Token) → adds_reference e ≡ true → Entries c l before e row → Good c tokens entries (entries_for e row) behind
+pub reference_good : (c : Chain) (l : EditList) (tokens : List Token) (before : List Edit) (entries behind : List LogEntry) (e : Edit) (row : Token) → adds_reference e ≡ true → Entries c l before e row → Good c tokens entries (entries_for e row) behind
 reference_good c l tokens before entries behind e row h (alone a) = rw a.entries (λ k. own_good c tokens entries behind k row, tt)
 reference_good c l tokens before entries behind e row h (paired owner table p) = let f : true ≡ false = sym h ∙ p.other in absurd cc

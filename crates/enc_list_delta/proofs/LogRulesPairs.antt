@@ -10,7 +10,7 @@ use Rattle.enc_schema.specs.Children.{is_child_table}
 use Rattle.enc_schema.proofs.ChildTables.{by_child}
 use Rattle.enc_plain.specs.Apply.{Attached}
 use Rattle.enc_plain.specs.Chain.{Chain}
-use Rattle.enc_delta.specs.declared.entry.Entry.{Entry}
+use Rattle.enc_delta.specs.declared.log_entry.LogEntry.{LogEntry}
 use Rattle.enc_delta.specs.Delta.{is_module}
 use Rattle.enc_delta.specs.Pairs.{pairs_in, attached_of}
 use Rattle.enc_delta.specs.Rules.{is_add, counts, counted}
@@ -30,7 +30,7 @@ edit_counts : (c : Chain) (l : EditList) (before : List Edit) (e : Edit) → is_
 edit_counts c l before e row (alone a) = rw (a.entries, own_counts (row_edited c.plain before e) row) refl
 edit_counts c l before e row (paired owner table p) = rw (p.entries, own_counts (row_edited c.plain before e) row, owner_counts (count_after c l.edits) owner table p.child p.there) refl
 
-counts_if : (b : Bool) (es rest : List Entry) → list_all counts es ≡ true → list_all counts rest ≡ true → list_all counts (entries_if b es ++ rest) ≡ true
+counts_if : (b : Bool) (es rest : List LogEntry) → list_all counts es ≡ true → list_all counts rest ≡ true → list_all counts (entries_if b es ++ rest) ≡ true
 counts_if true es rest h k = list_all-append counts es rest ∙ and_from (list_all counts es) (list_all counts rest) h k
 counts_if false es rest h k = k
 
@@ -56,11 +56,11 @@ pub code_adds : (table : ℕ) → is_child_table table ≡ true → is_add (add_
 code_adds table child = by_child (λ k. is_add (add_code k) ≡ true) refl refl refl refl refl table child
 
 -- an entry of code 0 begins no pair
-own_pairs : (row : Token) (rest : List Entry) → pairs_in (own_entry row ∷ rest) ≡ pairs_in rest
+own_pairs : (row : Token) (rest : List LogEntry) → pairs_in (own_entry row ∷ rest) ≡ pairs_in rest
 own_pairs row [] = refl
 own_pairs row (e ∷ rest) = refl
 
-edit_pairs : (c : Chain) (l : EditList) (before : List Edit) (e : Edit) (row : Token) (rest : List Entry) → Entries c l before e row → pairs_in (entries_for e row ++ rest) ≡ attached_by e row ++ pairs_in rest
+edit_pairs : (c : Chain) (l : EditList) (before : List Edit) (e : Edit) (row : Token) (rest : List LogEntry) → Entries c l before e row → pairs_in (entries_for e row ++ rest) ≡ attached_by e row ++ pairs_in rest
 edit_pairs c l before e row rest (alone a) = rw (a.entries, a.gives) (own_pairs row rest)
 edit_pairs c l before e row rest (paired owner table p) = rw (p.entries, p.gives, code_adds table p.child) (ap (λ ps. record { owner = owner; child = row } ∷ ps) (own_pairs row rest))
 
@@ -69,12 +69,12 @@ no_child : (c : Chain) (l : EditList) (before : List Edit) (e : Edit) (row : Tok
 no_child c l before e row h (alone a) = a.gives
 no_child c l before e row h (paired owner table p) = let f : true ≡ false = sym h ∙ p.other in absurd cc
 
-pairs_if : (b : Bool) (es behind : List Entry) (own : List Attached) → (b ≡ true → pairs_in (es ++ behind) ≡ own ++ pairs_in behind) → (b ≡ false → own ≡ []) → pairs_in (entries_if b es ++ behind) ≡ own ++ pairs_in behind
+pairs_if : (b : Bool) (es behind : List LogEntry) (own : List Attached) → (b ≡ true → pairs_in (es ++ behind) ≡ own ++ pairs_in behind) → (b ≡ false → own ≡ []) → pairs_in (entries_if b es ++ behind) ≡ own ++ pairs_in behind
 pairs_if true es behind own h k = h refl
 pairs_if false es behind own h k = rw (k refl) refl
 
 -- the pairs of references: none
-reference_pairs : (c : Chain) (l : EditList) (before rest : List Edit) (behind : List Entry) → BreakNothing c l → l.edits ≡ before ++ rest → pairs_in (entries_behind adds_reference c.plain before rest ++ behind) ≡ pairs_in behind
+reference_pairs : (c : Chain) (l : EditList) (before rest : List Edit) (behind : List LogEntry) → BreakNothing c l → l.edits ≡ before ++ rest → pairs_in (entries_behind adds_reference c.plain before rest ++ behind) ≡ pairs_in behind
 unfolding entries_behind
 reference_pairs c l before [] behind none is = refl
 reference_pairs c l before (e ∷ rest) behind none is =

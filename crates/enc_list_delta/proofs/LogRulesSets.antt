@@ -12,7 +12,7 @@ use Rattle.enc_base.specs.declared.token.Token.{Token}
 use Rattle.enc_plain.specs.Apply.{Attached}
 use Rattle.enc_plain.specs.Chain.{Chain}
 use Rattle.enc_plain.proofs.Applied.{same_is}
-use Rattle.enc_delta.specs.declared.entry.Entry.{Entry}
+use Rattle.enc_delta.specs.declared.log_entry.LogEntry.{LogEntry}
 use Rattle.enc_delta.specs.Delta.{is_module}
 use Rattle.enc_delta.specs.Judged.{unmatched_token}
 use Rattle.enc_delta.specs.Rules.{stands_in, in_one, counts, changed, set_fault}
@@ -33,12 +33,12 @@ use Rattle.enc_list_delta.proofs.LogRulesEdits.{own_entry, is_logged}
 abbrev pub lists : List Token → Token → Bool
 lists ts u = list_any (λ t. is_token t u) ts
 
-abbrev is_change : Entry → Bool
-is_change e = counts e && e.code == 0
+abbrev is_change : LogEntry → Bool
+is_change e = counts e && e.operation == 0
 
-changed_both : (xs ys : List Entry) → changed (xs ++ ys) ≡ changed xs ++ changed ys
+changed_both : (xs ys : List LogEntry) → changed (xs ++ ys) ≡ changed xs ++ changed ys
 unfolding changed
-changed_both xs ys = ap (map (λ (e : Entry). e.token)) (filter-append is_change xs ys) ∙ map-append (λ (e : Entry). e.token) (filter is_change xs) (filter is_change ys)
+changed_both xs ys = ap (map (λ (e : LogEntry). e.token)) (filter-append is_change xs ys) ∙ map-append (λ (e : LogEntry). e.token) (filter is_change xs) (filter is_change ys)
 
 -- an entry that gives an owner a child has another code
 code_not_zero : (table : ℕ) → (add_code table == 0) ≡ false
@@ -87,10 +87,10 @@ either_second true false d e h = refl
 either_second false b d e h = h
 
 -- what some entries change, with those of an edit before them or not
-with_edit : (e : Edit) (row u : Token) (rest : List Entry) → is_module row ≡ false → lists (changed (entries_for e row ++ rest)) u ≡ (is_token row u || lists (changed rest) u)
+with_edit : (e : Edit) (row u : Token) (rest : List LogEntry) → is_module row ≡ false → lists (changed (entries_for e row ++ rest)) u ≡ (is_token row u || lists (changed rest) u)
 with_edit e row u rest h = ap (λ ts. lists ts u) (changed_both (entries_for e row) rest ∙ ap (λ ts. ts ++ changed rest) (edit_changed e row h))
 
-logged_by : (e : Edit) (row u : Token) (b : Bool) (xs ys : List Entry) (all : Bool) → is_module row ≡ false → (lists (changed xs) u || lists (changed ys) u) ≡ all → (lists (changed (entries_if b (entries_for e row) ++ xs)) u || lists (changed (entries_if (not b) (entries_for e row) ++ ys)) u) ≡ (is_token row u || all)
+logged_by : (e : Edit) (row u : Token) (b : Bool) (xs ys : List LogEntry) (all : Bool) → is_module row ≡ false → (lists (changed xs) u || lists (changed ys) u) ≡ all → (lists (changed (entries_if b (entries_for e row) ++ xs)) u || lists (changed (entries_if (not b) (entries_for e row) ++ ys)) u) ≡ (is_token row u || all)
 logged_by e row u true xs ys all h g = rw (with_edit e row u xs h) (either_first (is_token row u) (lists (changed xs) u) (lists (changed ys) u) all g)
 logged_by e row u false xs ys all h g = rw (with_edit e row u ys h) (either_second (is_token row u) (lists (changed xs) u) (lists (changed ys) u) all g)
 

@@ -24,7 +24,7 @@ use Rattle.enc_plain.specs.Module.{Module}
 use Rattle.enc_plain.specs.Reading.{Reading}
 use Rattle.enc_delta.specs.Delta.{entry_at, map_token, log_in, map_in}
 use Rattle.enc_delta.specs.Rules.{module_token}
-use Rattle.enc_delta.specs.declared.entry.Entry.{Entry}
+use Rattle.enc_delta.specs.declared.log_entry.LogEntry.{LogEntry}
 use Rattle.enc_edit_list.specs.Form.{is_known_table, owner_fits, cells_fit, stated_columns, code_fits, edit_fits}
 use Rattle.enc_edit_list.specs.declared.edit.Edit.{Edit}
 use Rattle.enc_edit_list.specs.declared.edit.Edit.TheVariants.{Add, Body as Replace}
@@ -75,19 +75,19 @@ map_says h rows il s tokens read are low =
     ap token_of (read.numbers tables.enc_map i 0 (token_numbers t) (number_of t) row refl) ∙ token_back t (low_of t (all_at is_low tokens i t low there)) in
     ap (λ n. map (map_token s) (below n)) many ∙ listed_below (map_token s) tokens at
 
-abbrev entry_low : Entry → Bool
+abbrev entry_low : LogEntry → Bool
 entry_low e = is_low e.token
 
-pub log_says : (h : _) (rows : List (List (List ℕ))) (il : List ℕ) (s : Source) (log : List Entry) → IsDeltaReadAs h rows il s → rows_at rows tables.enc_log ≡ map entry_numbers log
+pub log_says : (h : _) (rows : List (List (List ℕ))) (il : List ℕ) (s : Source) (log : List LogEntry) → IsDeltaReadAs h rows il s → rows_at rows tables.enc_log ≡ map entry_numbers log
     → list_all entry_low log ≡ true → log_in s ≡ log
 unfolding log_in entry_at
 log_says h rows il s log read are low =
     let many : rows_of s.layout tables.enc_log ≡ length log = read.counts tables.enc_log (omega arith) ∙ ap length are ∙ mapped_many entry_numbers log in
-    let at : (i : ℕ) (e : Entry) → slice_get log i ≡ Some e → entry_at s i ≡ e =
+    let at : (i : ℕ) (e : LogEntry) → slice_get log i ≡ Some e → entry_at s i ≡ e =
     λ i e there.
     let row : slice_get (rows_at rows tables.enc_log) i ≡ Some (entry_numbers e) = rw are (mapped_at entry_numbers log i e there) in
     let token = ap token_of (read.numbers tables.enc_log i 0 (entry_numbers e) (number_of e.token) row refl) ∙ token_back e.token (low_of e.token (all_at entry_low log i e low there)) in
-    let code = read.numbers tables.enc_log i 1 (entry_numbers e) e.code row refl in
+    let code = read.numbers tables.enc_log i 1 (entry_numbers e) e.operation row refl in
     rw (token, code) refl in
     ap (λ n. map (entry_at s) (below n)) many ∙ listed_below (entry_at s) log at
 
@@ -212,7 +212,7 @@ entries_low (Add table owner cells code points) row fits low =
     let two = (and_parts (is_known_table table && owner_fits table owner) (cells_fit (stated_columns table) cells) three).0 in
     by (is_child_table table) (owner_low table owner (and_parts (is_known_table table) (owner_fits table owner) two).1)
   where
-    by : (b : Bool) → (b ≡ true → is_low owner ≡ true) → list_all entry_low (map add_entry (if b then record { owner = owner; child = row } ∷ [] else []) ++ record { token = row; code = 0 } ∷ []) ≡ true
+    by : (b : Bool) → (b ≡ true → is_low owner ≡ true) → list_all entry_low (map add_entry (if b then record { owner = owner; child = row } ∷ [] else []) ++ record { token = row; operation = 0 } ∷ []) ≡ true
     by true has = and_from _ _ (has refl) (and_from _ _ low refl)
     by false has = and_from _ _ low refl
 entries_low (Replace method code points) row fits low = and_from _ _ low refl

@@ -10,7 +10,7 @@ use Rattle.enc_plain.specs.Cell.{Cell}
 use Rattle.enc_plain.specs.Chain.{Chain}
 use Rattle.enc_plain.specs.Fits.{cells_for}
 use Rattle.enc_plain.specs.Module.{Module}
-use Rattle.enc_delta.specs.declared.entry.Entry.{Entry}
+use Rattle.enc_delta.specs.declared.log_entry.LogEntry.{LogEntry}
 use Rattle.enc_edit_list.specs.declared.edit.Edit.{Edit}
 use Rattle.enc_edit_list.specs.declared.edit.Edit.TheVariants.{Add, Body as Replace}
 use Rattle.enc_rules.specs.Edited.{row_edited, rows_edited, attached_by, changes_behind}
@@ -39,12 +39,12 @@ add_code table =
     else if table == tables.property then 4
     else 5
 
-abbrev pub add_entry : Attached → Entry
-add_entry a = record { token = a.owner; code = add_code a.child.table }
+abbrev pub add_entry : Attached → LogEntry
+add_entry a = record { token = a.owner; operation = add_code a.child.table }
 
 -- the entries of an edit: one that gives its row to the owner, where it has one, and one for the row
-unfoldable pub entries_for : Edit → Token → List Entry
-entries_for e row = map add_entry (attached_by e row) ++ record { token = row; code = 0 } ∷ []
+unfoldable pub entries_for : Edit → Token → List LogEntry
+entries_for e row = map add_entry (attached_by e row) ++ record { token = row; operation = 0 } ∷ []
 
 -- the edit adds a row that refers to something else: one of AssemblyRef, MemberRef, MethodSpec, ModuleRef,
 -- StandAloneSig, TypeRef or TypeSpec (ECMA-335 II.22)
@@ -58,17 +58,17 @@ abbrev pub adds_reference : Edit → Bool
 adds_reference (Add table owner cells code points) = is_reference_table table
 adds_reference (Replace method code points) = false
 
-abbrev pub entries_if : Bool → List Entry → List Entry
+abbrev pub entries_if : Bool → List LogEntry → List LogEntry
 entries_if b entries = if b then entries else []
 
 -- the entries of those edits, behind others, that pass a test
-unfoldable pub entries_behind : (Edit → Bool) → Module → List Edit → List Edit → List Entry
+unfoldable pub entries_behind : (Edit → Bool) → Module → List Edit → List Edit → List LogEntry
 entries_behind asks m before [] = []
 entries_behind asks m before (e ∷ rest) =
     entries_if (asks e) (entries_for e (row_edited m before e)) ++ entries_behind asks m (before ++ e ∷ []) rest
 
 -- EncLog: the entries of all references, and behind them those of all else, each in the order of the edits
-unfoldable pub log_written : Module → List Edit → List Entry
+unfoldable pub log_written : Module → List Edit → List LogEntry
 log_written m edits = entries_behind adds_reference m [] edits ++ entries_behind
     (λ e. not (adds_reference e)) m [] edits
 

@@ -22,7 +22,7 @@ use Rattle.enc_plain.specs.Reading.{Reading, cell_with}
 use Rattle.enc_plain.specs.Sound.{IsSound}
 use Rattle.enc_delta.specs.Delta.{loaded_code, log_in, map_in}
 use Rattle.enc_delta.specs.Rules.{module_token}
-use Rattle.enc_delta.specs.declared.entry.Entry.{Entry}
+use Rattle.enc_delta.specs.declared.log_entry.LogEntry.{LogEntry}
 use Rattle.enc_edit_list.specs.Form.{list_fits}
 use Rattle.enc_edit_list.specs.declared.edit.EditList.{EditList}
 use Rattle.enc_rules.specs.First.{first_edit}
@@ -83,8 +83,8 @@ pub record SaysModule (c : Chain) (l : EditList) (heaps : List Counted) (number 
   pub enc_id : joined_guid heaps (number columns.module_enc_id) ≡ Some l.enc_id
   pub base : joined_guid heaps (number columns.module_enc_base_id) ≡ Some (id_of c (length c.ids))
 
-abbrev pub entry_numbers : Entry → List ℕ
-entry_numbers e = number_of e.token ∷ e.code ∷ []
+abbrev pub entry_numbers : LogEntry → List ℕ
+entry_numbers e = number_of e.token ∷ e.operation ∷ []
 
 abbrev pub token_numbers : Token → List ℕ
 token_numbers t = number_of t ∷ []

@@ -6,7 +6,7 @@ use Rattle.std.proofs.lemmas.List.Folds.{list_any-append}
 use Rattle.enc_schema.specs.Schema.{columns_in}
 use Rattle.enc_base.specs.Tables.{enc_log, enc_map}
 use Rattle.enc_delta.specs.Rules.{counted, counts, stands_in}
-use Rattle.enc_delta.specs.declared.entry.Entry.{Entry}
+use Rattle.enc_delta.specs.declared.log_entry.LogEntry.{LogEntry}
 use Rattle.enc_list_delta.specs.Holds.{entry_numbers}
 
 -- EncMap has one column, and EncLog two
@@ -70,7 +70,7 @@ map_has_room numbers k old so_far low is few =
     omega (arith, low, many, few)
 
 -- the entries that count of one list behind another
-counted_both : (xs ys : List Entry) → counted (xs ++ ys) ≡ counted xs ++ counted ys
+counted_both : (xs ys : List LogEntry) → counted (xs ++ ys) ≡ counted xs ++ counted ys
 unfolding counted
 counted_both [] ys = refl
 counted_both (x ∷ xs) ys = by (counts x) refl (counted_both xs ys)
@@ -79,10 +79,10 @@ counted_both (x ∷ xs) ys = by (counts x) refl (counted_both xs ys)
     by true is more = rw is (ap (λ es. x ∷ es) more)
     by false is more = rw is more
 
-counted_more : (log : List Entry) (k : ℕ) (e : Entry) → k < length log → e ≡ get_or log k e → counted (take (k + 1) log) ≡ counted (take k log) ++ counted (e ∷ [])
-counted_more log k e low is = ap counted (take_more log k e low) ∙ counted_both (take k log) (get_or log k e ∷ []) ∙ ap (λ (x : Entry). counted (take k log) ++ counted (x ∷ [])) (sym is)
+counted_more : (log : List LogEntry) (k : ℕ) (e : LogEntry) → k < length log → e ≡ get_or log k e → counted (take (k + 1) log) ≡ counted (take k log) ++ counted (e ∷ [])
+counted_more log k e low is = ap counted (take_more log k e low) ∙ counted_both (take k log) (get_or log k e ∷ []) ∙ ap (λ (x : LogEntry). counted (take k log) ++ counted (x ∷ [])) (sym is)
 
-counted_front : (log : List Entry) (k : ℕ) → length (counted (take k log)) ≤ length (counted log)
+counted_front : (log : List LogEntry) (k : ℕ) → length (counted (take k log)) ≤ length (counted log)
 unfolding counted
 counted_front [] zero = omega arith
 counted_front [] (suc k) = omega arith
@@ -98,22 +98,22 @@ pub no_entry_logged : (rows : List (List ℕ)) → rows ≡ rows ++ map entry_nu
 unfolding counted
 no_entry_logged rows = sym (append-nil rows)
 
-logged_length : (old new : List (List ℕ)) (xs : List Entry) → new ≡ old ++ map entry_numbers xs → length new ≡ length old + length xs
+logged_length : (old new : List (List ℕ)) (xs : List LogEntry) → new ≡ old ++ map entry_numbers xs → length new ≡ length old + length xs
 logged_length old new xs is = ap length is ∙ length-append old (map entry_numbers xs) ∙ ap (λ n. length old + n) (length-map xs entry_numbers)
 
-pub behind_logged : (old so_far new : List (List ℕ)) (xs ys : List Entry) → so_far ≡ old ++ map entry_numbers xs → new ≡ so_far ++ map entry_numbers ys → new ≡ old ++ map entry_numbers (xs ++ ys)
+pub behind_logged : (old so_far new : List (List ℕ)) (xs ys : List LogEntry) → so_far ≡ old ++ map entry_numbers xs → new ≡ so_far ++ map entry_numbers ys → new ≡ old ++ map entry_numbers (xs ++ ys)
 behind_logged old so_far new xs ys before after =
     after
     ∙ ap (λ rows. rows ++ map entry_numbers ys) before
     ∙ append_assoc old (map entry_numbers xs) (map entry_numbers ys)
     ∙ ap (λ rows. old ++ rows) (sym (map-append entry_numbers xs ys))
 
-pub entry_logged : (log : List Entry) (k : ℕ) (e : Entry) (old so_far new : List (List ℕ)) → k < length log → e ≡ get_or log k e → so_far ≡ old ++ map entry_numbers (counted (take k log))
+pub entry_logged : (log : List LogEntry) (k : ℕ) (e : LogEntry) (old so_far new : List (List ℕ)) → k < length log → e ≡ get_or log k e → so_far ≡ old ++ map entry_numbers (counted (take k log))
     → new ≡ so_far ++ map entry_numbers (counted (e ∷ [])) → new ≡ old ++ map entry_numbers (counted (take (k + 1) log))
 entry_logged log k e old so_far new low is before after =
     behind_logged old so_far new (counted (take k log)) (counted (e ∷ [])) before after ∙ ap (λ es. old ++ map entry_numbers es) (sym (counted_more log k e low is))
 
-pub log_has_room : (log : List Entry) (k : ℕ) (e : Entry) (old so_far : List (List ℕ)) → k < length log → e ≡ get_or log k e → so_far ≡ old ++ map entry_numbers (counted (take k log))
+pub log_has_room : (log : List LogEntry) (k : ℕ) (e : LogEntry) (old so_far : List (List ℕ)) → k < length log → e ≡ get_or log k e → so_far ≡ old ++ map entry_numbers (counted (take k log))
     → length old + length (counted log) < 2 ^ 24 → length so_far + length (counted (e ∷ [])) < 2 ^ 24
 log_has_room log k e old so_far low at is few =
     let many = logged_length old so_far (counted (take k log)) is in
@@ -122,5 +122,5 @@ log_has_room log k e old so_far low at is few =
     omega (arith, many, more, most, few)
 
 -- the log of the second behind that of the first
-pub second_has_room : (old new : List (List ℕ)) (xs ys : List Entry) → new ≡ old ++ map entry_numbers xs → length old + length xs + length ys < 2 ^ 24 → length new + length ys < 2 ^ 24
+pub second_has_room : (old new : List (List ℕ)) (xs ys : List LogEntry) → new ≡ old ++ map entry_numbers xs → length old + length xs + length ys < 2 ^ 24 → length new + length ys < 2 ^ 24
 second_has_room old new xs ys is few = let many = logged_length old new xs is in omega (arith, many, few)

@@ -30,7 +30,7 @@ use Rattle.enc_schema.specs.declared.column.Column.TheVariants.{Num32}
 use Rattle.enc_delta.specs.Delta.{delta_of, entry_at, is_module, listed, loaded_code, log_in, map_in, of_table, place_in}
 use Rattle.enc_delta.specs.Rows.{cell_after, own_row}
 use Rattle.enc_delta.specs.Rules.{counted, counts, heaps_after, inserts, module_token, own_guid, reading_after, rows_with, stands_in}
-use Rattle.enc_delta.specs.declared.entry.Entry.{Entry}
+use Rattle.enc_delta.specs.declared.log_entry.LogEntry.{LogEntry}
 use Rattle.enc_agg.specs.Extend.{extended}
 use Rattle.enc_agg.specs.Follows.{Lands}
 use Rattle.enc_agg.specs.Seen.{History}
@@ -108,7 +108,7 @@ past_none h x numbers rows table are tokens held past =
     ∙ none_in table (tokens_of numbers) past (tables_low h x numbers are tokens)
 
 -- EncLog
-abbrev entry_low : Entry → Bool
+abbrev entry_low : LogEntry → Bool
 entry_low e = is_low e.token
 
 entries_low : (s : Source) → list_all entry_low (log_in s) ≡ true
@@ -123,7 +123,7 @@ counted_low : (s : Source) → list_all entry_low (counted (log_in s)) ≡ true
 unfolding counted
 counted_low s = all_filter counts entry_low (log_in s) (entries_low s)
 
-both_low : (xs ys : List Entry) → list_all entry_low xs ≡ true → list_all entry_low ys ≡ true → list_all entry_low (xs ++ ys) ≡ true
+both_low : (xs ys : List LogEntry) → list_all entry_low xs ≡ true → list_all entry_low ys ≡ true → list_all entry_low (xs ++ ys) ≡ true
 both_low [] ys a b = b
 both_low (e ∷ xs) ys a b = let parts = and_parts (entry_low e) (list_all entry_low xs) a in and_from (entry_low e) (list_all entry_low (xs ++ ys)) parts.0 (both_low xs ys parts.1 b)
 

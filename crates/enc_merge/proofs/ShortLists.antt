@@ -26,7 +26,7 @@ use Rattle.enc_schema.specs.Widths.{Shape, row_width}
 use Rattle.enc_delta.specs.Delta.{delta_layout, delta_of, delta_source, entry_at, listed, log_in, source_in, source_with}
 use Rattle.enc_delta.specs.Rules.{changed, counted, counts, stands_in}
 use Rattle.enc_delta.specs.Seen.{WasRead}
-use Rattle.enc_delta.specs.declared.entry.Entry.{Entry}
+use Rattle.enc_delta.specs.declared.log_entry.LogEntry.{LogEntry}
 use Rattle.enc_delta.proofs.ListsSets.{Rises, rises}
 use Rattle.enc_agg.specs.Extend.{extended}
 use Rattle.enc_agg.specs.Follows.{Lands}
@@ -163,23 +163,23 @@ no_more (x ∷ xs) ys up each =
     omega (arith, less, rest)
 
 -- each token has its own entry with code 0
-abbrev is_change : Entry → Bool
-is_change e = counts e && e.code == 0
+abbrev is_change : LogEntry → Bool
+is_change e = counts e && e.operation == 0
 
-change_step : (e : Entry) (es : List Entry) (a b : Bool) → counts e ≡ a → (e.code == 0) ≡ b → length (filter is_change es) ≤ length (filter counts es)
+change_step : (e : LogEntry) (es : List LogEntry) (a b : Bool) → counts e ≡ a → (e.operation == 0) ≡ b → length (filter is_change es) ≤ length (filter counts es)
     → length (filter is_change (e ∷ es)) ≤ length (filter counts (e ∷ es))
 change_step e es true true p q more = rw (p, q) (omega (arith, more))
 change_step e es true false p q more = rw (p, q) (omega (arith, more))
 change_step e es false b p q more = rw p more
 
-changes_few : (es : List Entry) → length (filter is_change es) ≤ length (filter counts es)
+changes_few : (es : List LogEntry) → length (filter is_change es) ≤ length (filter counts es)
 changes_few [] = omega arith
-changes_few (e ∷ es) = change_step e es (counts e) (e.code == 0) refl refl (changes_few es)
+changes_few (e ∷ es) = change_step e es (counts e) (e.operation == 0) refl refl (changes_few es)
 
-changed_few : (log : List Entry) → length (changed log) ≤ length (counted log)
+changed_few : (log : List LogEntry) → length (changed log) ≤ length (counted log)
 unfolding changed counted
 changed_few log =
-    let named = length-map (filter is_change log) (λ (e : Entry). e.token) in
+    let named = length-map (filter is_change log) (λ (e : LogEntry). e.token) in
     let fewer = changes_few log in
     omega (arith, named, fewer)
 

@@ -9,7 +9,7 @@ ghost use Rattle.enc_list_delta.specs.Holds.{entry_numbers};
 ghost use Rattle.enc_merge.specs.Writing.{AreOfEither, StayBut};
 
 use enc_base::tables::{ENC_LOG, ENC_MAP};
-use enc_delta::{Delta, Entry, log_of};
+use enc_delta::{Delta, LogEntry, log_of};
 use enc_rows::TableBuilder;
 use std::alloc::{AllocError, Global};
 
@@ -65,7 +65,7 @@ pub(crate) fn push_map(numbers: &[u32], tables: &mut TableBuilder) -> Result<(),
 }
 
 /// Whether an entry counts: all but the Module's do.
-fn counts(entry: Entry) -> bool
+fn counts(entry: LogEntry) -> bool
     ensures { result ≡ counts entry }
 {
     entry.token.table != 0 || entry.token.row != 1
@@ -73,18 +73,18 @@ fn counts(entry: Entry) -> bool
 
 /// Adds an entry of EncLog.
 #[tactic(auto, using(crate::proofs::ListRows::log_columns, crate::proofs::ListRows::log_width))]
-fn push_entry(entry: Entry, tables: &mut TableBuilder) -> Result<(), AllocError>
+fn push_entry(entry: LogEntry, tables: &mut TableBuilder) -> Result<(), AllocError>
     requires number { entry.token.row < 2 ^ 24 }
     requires few { count_at tables.old enc_log < 2 ^ 24 - 1 }
     ensures pushed { OnOk result (rows_at tables.new enc_log ≡ rows_at tables.old enc_log ++ entry_numbers entry ∷ []) }
     ensures others { OnOk result (StayBut enc_log tables.old tables.new) }
 {
-    tables.push(ENC_LOG, &[entry.token.number(), entry.code])
+    tables.push(ENC_LOG, &[entry.token.number(), entry.operation])
 }
 
 /// Adds an entry of EncLog, where it counts.
 #[tactic(auto, unfolding(enc_delta::specs::Rules::counted))]
-fn push_if_counted(entry: Entry, tables: &mut TableBuilder) -> Result<(), AllocError>
+fn push_if_counted(entry: LogEntry, tables: &mut TableBuilder) -> Result<(), AllocError>
     requires number { entry.token.row < 2 ^ 24 }
     requires few { count_at tables.old enc_log + length (counted (entry ∷ [])) < 2 ^ 24 }
     ensures pushed { OnOk result (rows_at tables.new enc_log ≡ rows_at tables.old enc_log ++ map entry_numbers

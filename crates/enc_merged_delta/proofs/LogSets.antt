@@ -10,7 +10,7 @@ use Rattle.enc_base.specs.Token.{is_token, number_of}
 use Rattle.enc_base.specs.declared.token.Token.{Token}
 use Rattle.enc_rows.specs.Source.{Source}
 use Rattle.enc_plain.specs.Chain.{Chain}
-use Rattle.enc_delta.specs.declared.entry.Entry.{Entry}
+use Rattle.enc_delta.specs.declared.log_entry.LogEntry.{LogEntry}
 use Rattle.enc_delta.specs.Delta.{listed, log_in}
 use Rattle.enc_delta.specs.Judged.{unmatched_token}
 use Rattle.enc_delta.specs.Rules.{stands_in, in_one, counts, counted, changed, set_fault}
@@ -91,19 +91,19 @@ numbers_there (x ∷ xs) ys each n h = elim (or_cases (number_of x == n) (stands
 ]
 
 -- the tokens with code 0 of a log are those of its entries that count
-abbrev is_change : Entry → Bool
-is_change e = counts e && e.code == 0
+abbrev is_change : LogEntry → Bool
+is_change e = counts e && e.operation == 0
 
-changed_both : (xs ys : List Entry) → changed (xs ++ ys) ≡ changed xs ++ changed ys
+changed_both : (xs ys : List LogEntry) → changed (xs ++ ys) ≡ changed xs ++ changed ys
 unfolding changed
-changed_both xs ys = ap (map (λ (e : Entry). e.token)) (filter-append is_change xs ys) ∙ map-append (λ (e : Entry). e.token) (filter is_change xs) (filter is_change ys)
+changed_both xs ys = ap (map (λ (e : LogEntry). e.token)) (filter-append is_change xs ys) ∙ map-append (λ (e : LogEntry). e.token) (filter is_change xs) (filter is_change ys)
 
-changed_counted : (es : List Entry) → changed (counted es) ≡ changed es
+changed_counted : (es : List LogEntry) → changed (counted es) ≡ changed es
 unfolding changed counted
 changed_counted [] = refl
 changed_counted (e ∷ es) = elim (cases_Bool (counts e)) [
   | inr off ↦ rw off (changed_counted es)
-  | inl on ↦ elim (cases_Bool (e.code == 0)) [
+  | inl on ↦ elim (cases_Bool (e.operation == 0)) [
     | inl zero_code ↦ rw (on, on, zero_code) (ap (λ ts. e.token ∷ ts) (changed_counted es))
     | inr other ↦ rw (on, on, other) (changed_counted es)
   ]

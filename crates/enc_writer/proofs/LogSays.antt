@@ -12,7 +12,7 @@ use Rattle.enc_schema.specs.Schema.{columns_in}
 use Rattle.enc_base.specs.Tables.{enc_log}
 use Rattle.enc_plain.specs.Chain.{Chain}
 use Rattle.enc_plain.specs.Module.{Module}
-use Rattle.enc_delta.specs.declared.entry.Entry.{Entry}
+use Rattle.enc_delta.specs.declared.log_entry.LogEntry.{LogEntry}
 use Rattle.enc_edit_list.specs.declared.edit.Edit.{Edit}
 use Rattle.enc_edit_list.specs.declared.edit.Edit.TheVariants.{Add, Body as Replace}
 use Rattle.enc_edit_list.specs.declared.edit.EditList.{EditList}
@@ -131,7 +131,7 @@ one_or_two (Replace method code points) row true is = absurd cc
 one_or_two (Replace method code points) row false is = ap length (body_entries method code points row)
 
 -- so all have as many as there are edits and edits whose rows have owners
-split_length : (b : Bool) (es : List Entry) (xs ys : List Entry) → length (entries_if b es ++ xs) + length (entries_if (not b) es ++ ys) ≡ length es + (length xs + length ys)
+split_length : (b : Bool) (es : List LogEntry) (xs ys : List LogEntry) → length (entries_if b es ++ xs) + length (entries_if (not b) es ++ ys) ≡ length es + (length xs + length ys)
 split_length true es xs ys = let one = length-append es xs in omega (arith, one)
 split_length false es xs ys = let one = length-append es ys in omega (arith, one)
 
@@ -160,14 +160,14 @@ log_few c l may =
     omega (arith, few, all)
 
 -- entries behind others: none, and those of one edit more, which have room
-joined : (old so_far new : List (List ℕ)) (xs ys : List Entry) → so_far ≡ old ++ map entry_numbers xs → new ≡ so_far ++ map entry_numbers ys → new ≡ old ++ map entry_numbers (xs ++ ys)
+joined : (old so_far new : List (List ℕ)) (xs ys : List LogEntry) → so_far ≡ old ++ map entry_numbers xs → new ≡ so_far ++ map entry_numbers ys → new ≡ old ++ map entry_numbers (xs ++ ys)
 joined old so_far new xs ys before after =
     after
     ∙ ap (λ rows. rows ++ map entry_numbers ys) before
     ∙ append_assoc old (map entry_numbers xs) (map entry_numbers ys)
     ∙ ap (λ rows. old ++ rows) (sym (map-append entry_numbers xs ys))
 
-joined_length : (old new : List (List ℕ)) (xs : List Entry) → new ≡ old ++ map entry_numbers xs → length new ≡ length old + length xs
+joined_length : (old new : List (List ℕ)) (xs : List LogEntry) → new ≡ old ++ map entry_numbers xs → length new ≡ length old + length xs
 joined_length old new xs is = ap length is ∙ length-append old (map entry_numbers xs) ∙ ap (λ n. length old + n) (length-map xs entry_numbers)
 
 pub none_logged : (references : Bool) (c : Chain) (l : EditList) (rows : List (List ℕ)) → rows ≡ rows ++ map entry_numbers (entries_upto references c l 0)

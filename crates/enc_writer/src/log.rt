@@ -15,7 +15,7 @@ use enc_base::tables::{
     ASSEMBLY_REF, ENC_LOG, FIELD, MEMBER_REF, METHOD_DEF, METHOD_SPEC, MODULE_REF, PARAM, PROPERTY,
     STAND_ALONE_SIG, TYPE_REF, TYPE_SPEC,
 };
-use enc_delta::Entry;
+use enc_delta::LogEntry;
 use enc_edit_list::Edit;
 use enc_plain::ChainView;
 use enc_rows::TableBuilder;
@@ -74,13 +74,13 @@ fn is_asked(references: bool, edit: &Edit) -> bool
 
 /// Adds an entry.
 #[tactic(auto, using(crate::proofs::LogSays::log_columns, crate::proofs::LogSays::log_width))]
-fn push_entry(entry: Entry, tables: &mut TableBuilder) -> Result<(), AllocError>
+fn push_entry(entry: LogEntry, tables: &mut TableBuilder) -> Result<(), AllocError>
     requires number { entry.token.row < 2 ^ 24 }
     requires few { count_at tables.old enc_log < 2 ^ 24 - 1 }
     ensures pushed { OnOk result (rows_at tables.new enc_log ≡ rows_at tables.old enc_log ++ entry_numbers entry ∷ []) }
     ensures others { OnOk result (OthersStay enc_log tables.old tables.new) }
 {
-    tables.push(ENC_LOG, &[entry.token.number(), entry.code])
+    tables.push(ENC_LOG, &[entry.token.number(), entry.operation])
 }
 
 /// Adds the entry that gives the row of an edit to its owner, where it has one.
@@ -99,7 +99,7 @@ fn push_owner(edit: &Edit, row: Token, tables: &mut TableBuilder) -> Result<(), 
     }
     let code = add_code(row.table);
     push_entry(
-        Entry {
+        LogEntry {
             token: *owner,
             code,
         },
@@ -119,7 +119,7 @@ fn push_entries(edit: &Edit, row: Token, tables: &mut TableBuilder) -> Result<()
 {
     push_owner(edit, row, tables)?;
     push_entry(
-        Entry {
+        LogEntry {
             token: row,
             code: 0,
         },
