@@ -22,7 +22,10 @@ impl Frame {
     }
 
     /// What an instruction does to its frame alone; behind it the frame goes on at an offset.
-    #[tactic(auto, unfolding(crate::specs::FrameActs::frame_act, crate::specs::Machine::version_world, enc_opcodes::specs::Body::body_of))]
+    #[tactic(auto, unfolding(crate::specs::FrameActs::frame_act, // what an act does to its frame
+    crate::specs::Machine::version_world, // what the frames see
+    enc_opcodes::specs::Body::body_of // what a body's parts mean
+    ))]
     pub fn act<V: ModuleView>(
         &mut self,
         alloc: Global,

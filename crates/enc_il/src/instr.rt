@@ -39,7 +39,10 @@ fn any_at(code: &[u8], offset: u32) -> Option<(Instr<'_>, u32)>
 
 /// The instruction at an offset, where its code is one byte and no operand follows. None where
 /// another stands there, or none.
-#[tactic(auto, unfolding(enc_opcodes::specs::Instruction::instr_in, enc_opcodes::specs::Instruction::op_in, enc_opcodes::specs::Instruction::arg_in))]
+#[tactic(auto, unfolding(enc_opcodes::specs::Instruction::instr_in, // an instruction at an offset:
+enc_opcodes::specs::Instruction::op_in, // its opcode
+enc_opcodes::specs::Instruction::arg_in // and its operand
+))]
 fn bare_at(code: &[u8], offset: u32) -> Option<Op>
     ensures bare { IfSome result (λ op. instr_in code.now offset ≡ Some (
       record { op = op; arg = nothing },

@@ -37,7 +37,10 @@ pub(crate) fn refused(place: Place) -> ReadFault
 }
 
 /// The document of a row, None where one of its offsets or its name isn't good.
-#[tactic(auto, unfolding(crate::specs::Seen::good_document, crate::specs::Fault::is_document, crate::specs::Pdb::name_of_document))]
+#[tactic(auto, unfolding(crate::specs::Seen::good_document, // a document, where it is good:
+crate::specs::Fault::is_document, // its columns stand in their heaps
+crate::specs::Pdb::name_of_document // and it has a name
+))]
 pub(crate) fn good_document(file: &File, row: Token) -> Option<DocumentRef<'_>>
     ensures { option_map document_seen result ≡ good_document file.now row }
 {

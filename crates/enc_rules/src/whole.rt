@@ -21,7 +21,10 @@ fn id_is_taken<C: ChainView>(chain: &C, list: &EditList) -> bool
 }
 
 /// A heap of the chain has no room for the one byte that each delta has, or `#GUID` none for an entry.
-#[tactic(auto, unfolding(crate::specs::Rules::heaps_are_full, crate::specs::Rules::passes_limits, enc_meta::specs::Built::joined_end))]
+#[tactic(auto, unfolding(crate::specs::Rules::heaps_are_full, // a heap that is full before any edit
+crate::specs::Rules::passes_limits, // its limit
+enc_meta::specs::Built::joined_end // where the joined heap ends
+))]
 fn heaps_are_full<C: ChainView>(chain: &C, list: &EditList) -> bool
     ensures { result ≡ heaps_are_full (C.chain chain.now) list.now }
 {

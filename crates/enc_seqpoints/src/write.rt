@@ -143,7 +143,10 @@ fn write_offset(before: Option<u32>, offset: u32, out: &mut Vec<u8>) -> Result<(
 }
 
 /// Appends the column difference.
-#[tactic(auto, unfolding(crate::specs::Spelling::columns_bytes, crate::specs::Spelling::ends_behind, crate::specs::Grammar::are_lines))]
+#[tactic(auto, unfolding(crate::specs::Spelling::columns_bytes, // the difference of columns
+crate::specs::Spelling::ends_behind, // the end behind the start
+crate::specs::Grammar::are_lines // what fits a line and a column
+))]
 fn write_columns(lines: (u32, u32, u32, u32), out: &mut Vec<u8>) -> Result<(), AllocError>
     requires good { IsTrue (are_lines lines) }
     requires behind { IsTrue (ends_behind lines) }
@@ -157,7 +160,10 @@ fn write_columns(lines: (u32, u32, u32, u32), out: &mut Vec<u8>) -> Result<(), A
 }
 
 /// Appends the start.
-#[tactic(auto, unfolding(crate::specs::Spelling::start_bytes, crate::specs::Spelling::is_near, crate::specs::Grammar::are_lines))]
+#[tactic(auto, unfolding(crate::specs::Spelling::start_bytes, // the start, or what differs from the last
+crate::specs::Spelling::is_near, // near enough to be told as a difference
+crate::specs::Grammar::are_lines // what fits a line and a column
+))]
 fn write_start(
     start: Option<(u32, u32)>,
     lines: (u32, u32, u32, u32),
@@ -181,7 +187,11 @@ fn write_start(
 }
 
 /// Appends line difference, column difference and start.
-#[tactic(auto, unfolding(crate::specs::Spelling::lines_bytes, crate::specs::Spelling::are_writable, crate::specs::Spelling::ends_behind, crate::specs::Grammar::are_lines))]
+#[tactic(auto, unfolding(crate::specs::Spelling::lines_bytes, // lines, columns, start
+crate::specs::Spelling::are_writable, // where they can be spelled
+crate::specs::Spelling::ends_behind, // the end behind the start
+crate::specs::Grammar::are_lines // what fits a line and a column
+))]
 fn write_lines(
     start: Option<(u32, u32)>,
     lines: Option<(u32, u32, u32, u32)>,

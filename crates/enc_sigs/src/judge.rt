@@ -60,7 +60,11 @@ fn past_opened<'a>(depth: u32, bytes: &'a [u8], rows: &RowTest<'_>) -> Option<&'
 
 /// What is behind that which stands behind a type's first byte.
 #[cycle(judge)]
-#[tactic(auto, unfolding(crate::specs::Grammar::formed_in, crate::specs::Grammar::wrapped_in, crate::specs::Grammar::named_in, crate::specs::Grammar::numbered_in))]
+#[tactic(auto, unfolding(crate::specs::Grammar::formed_in, // by its form
+crate::specs::Grammar::wrapped_in, // a type within
+crate::specs::Grammar::named_in, // a token
+crate::specs::Grammar::numbered_in // or a number
+))]
 fn past_formed<'a>(
     form: Form,
     b: u8,
@@ -125,7 +129,10 @@ fn past_many<'a>(count: u32, depth: u32, bytes: &'a [u8], rows: &RowTest<'_>) ->
 
 /// What is behind a generic instance's class and arguments.
 #[cycle(judge)]
-#[tactic(auto, unfolding(crate::specs::Grammar::instance_in, crate::specs::Grammar::byte_in, crate::specs::Grammar::list_in))]
+#[tactic(auto, unfolding(crate::specs::Grammar::instance_in, // a generic instance:
+crate::specs::Grammar::byte_in, // its first byte
+crate::specs::Grammar::list_in // and its arguments
+))]
 fn past_instance<'a>(b: u8, depth: u32, bytes: &'a [u8], rows: &RowTest<'_>) -> Option<&'a [u8]>
     ensures { option_map (λ x. x.now) result
         ≡ left_after (instance_in (test_of rows.now) (elem_in (test_of rows.now) depth) b bytes.now) }
@@ -210,7 +217,10 @@ fn past_accessed<'a>(bytes: &'a [u8], rows: &RowTest<'_>) -> Option<&'a [u8]>
 }
 
 /// What is behind the signature of a method.
-#[tactic(auto, unfolding(crate::specs::Grammar::front_in, crate::specs::Grammar::method_in, crate::specs::Grammar::type_in))]
+#[tactic(auto, unfolding(crate::specs::Grammar::front_in, // a signature of each kind
+crate::specs::Grammar::method_in, // that of a method
+crate::specs::Grammar::type_in // the type in it
+))]
 fn past_method<'a>(blob: &'a [u8], rows: &RowTest<'_>) -> Option<&'a [u8]>
     ensures { option_map (λ x. x.now) result ≡ left_after (front_in (test_of rows.now) sigs.Method blob.now) }
 {
@@ -219,7 +229,10 @@ fn past_method<'a>(blob: &'a [u8], rows: &RowTest<'_>) -> Option<&'a [u8]>
 }
 
 /// What is behind that of a field.
-#[tactic(auto, unfolding(crate::specs::Grammar::front_in, crate::specs::Grammar::byte_in, crate::specs::Grammar::type_in))]
+#[tactic(auto, unfolding(crate::specs::Grammar::front_in, // a signature of each kind
+crate::specs::Grammar::byte_in, // its first byte
+crate::specs::Grammar::type_in // the type in it
+))]
 fn past_field<'a>(blob: &'a [u8], rows: &RowTest<'_>) -> Option<&'a [u8]>
     ensures { option_map (λ x. x.now) result ≡ left_after (front_in (test_of rows.now) sigs.Field blob.now) }
 {

@@ -172,7 +172,10 @@ pub fn many_elems<'a>(
 
 /// A generic instance: a class or a value type, and the arguments.
 #[cycle(reader)]
-#[tactic(auto, unfolding(crate::specs::Grammar::instance_in, crate::specs::Grammar::byte_in, crate::specs::Grammar::list_in))]
+#[tactic(auto, unfolding(crate::specs::Grammar::instance_in, // a generic instance:
+crate::specs::Grammar::byte_in, // its first byte
+crate::specs::Grammar::list_in // and its arguments
+))]
 fn instance<'a>(
     alloc: Global,
     b: u8,

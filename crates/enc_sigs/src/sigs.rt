@@ -87,7 +87,10 @@ fn method_front<'a>(
 }
 
 /// What stands in that of a field (II.23.2.4).
-#[tactic(auto, unfolding(crate::specs::Grammar::front_in, crate::specs::Grammar::byte_in, crate::specs::Grammar::type_in))]
+#[tactic(auto, unfolding(crate::specs::Grammar::front_in, // a signature of each kind
+crate::specs::Grammar::byte_in, // its first byte
+crate::specs::Grammar::type_in // the type in it
+))]
 fn field_front<'a>(
     alloc: Global,
     blob: &'a [u8],

@@ -195,7 +195,10 @@ fn write_within<F: Fn(Token) -> Token>(
 
 /// Appends these types.
 #[cycle(writer)]
-#[tactic(auto, unfolding(crate::specs::Spelling::spellings, crate::specs::Spelling::tree_bytes, crate::specs::Moved::forest_moved))]
+#[tactic(auto, unfolding(crate::specs::Spelling::spellings, // the types within
+crate::specs::Spelling::tree_bytes, // each as its bytes
+crate::specs::Moved::forest_moved // with their tokens moved
+))]
 fn write_elems<F: Fn(Token) -> Token>(
     kids: &[Elem],
     moved: &F,
@@ -215,7 +218,10 @@ fn write_elems<F: Fn(Token) -> Token>(
 
 /// Appends the first of these types.
 #[cycle(writer)]
-#[tactic(auto, unfolding(crate::specs::Spelling::spellings, crate::specs::Spelling::tree_bytes, crate::specs::Moved::forest_moved))]
+#[tactic(auto, unfolding(crate::specs::Spelling::spellings, // the types within
+crate::specs::Spelling::tree_bytes, // each as its bytes
+crate::specs::Moved::forest_moved // with their tokens moved
+))]
 fn write_first<F: Fn(Token) -> Token>(
     kids: &[Elem],
     moved: &F,
@@ -304,7 +310,10 @@ fn write_parts<F: Fn(Token) -> Token>(
 
 /// Appends the signature of a function pointer.
 #[cycle(writer)]
-#[tactic(auto, unfolding(crate::specs::Spelling::pointer_bytes, crate::specs::Spelling::spellings, crate::specs::Moved::forest_moved))]
+#[tactic(auto, unfolding(crate::specs::Spelling::pointer_bytes, // a pointer to a function
+crate::specs::Spelling::spellings, // the types within
+crate::specs::Moved::forest_moved // with their tokens moved
+))]
 fn write_pointer<F: Fn(Token) -> Token>(
     calling: u32,
     kids: &[Elem],
