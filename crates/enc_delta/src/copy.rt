@@ -35,10 +35,9 @@ pub fn log_of(delta: &Delta, alloc: Global) -> Result<Vec<LogEntry>, AllocError>
 }
 
 impl Delta {
+    #[tactic(auto, using(crate::proofs::Listed::tokens_steps), // one token after the other
+    unfolding(crate::specs::Delta::listed, crate::specs::Delta::map_in))]
     /// The tokens of EncMap but the Module's, in the map's order.
-    #[tactic(auto, using(crate::proofs::Listed::tokens_steps), unfolding(crate::specs::Delta::listed, // the tokens but the Module's
-    crate::specs::Delta::map_in // all tokens of EncMap
-    ))]
     pub fn tokens(&self, alloc: Global) -> Result<Vec<Token>, AllocError>
         ensures tokens { IfOk result (λ l. l.items ≡ listed self.now) }
         ensures rows { IfOk result (λ l. IsTrue (list_all (λ (t : TheToken). nat_lt t.row 0x1000000) l.items)) }
@@ -55,10 +54,9 @@ impl Delta {
         Ok(tokens)
     }
 
+    #[tactic(auto, using(crate::proofs::Listed::tokens_steps), // one token after the other
+    unfolding(crate::specs::Delta::listed, crate::specs::Delta::map_in))]
     /// The tokens of EncMap but the Module's, in the map's order. A step for each token of the map.
-    #[tactic(auto, using(crate::proofs::Listed::tokens_steps), unfolding(crate::specs::Delta::listed, // the tokens but the Module's
-    crate::specs::Delta::map_in // all tokens of EncMap
-    ))]
     pub fn tokens_counted<L: Ledger>(
         &self,
         alloc: Global,

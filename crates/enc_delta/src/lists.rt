@@ -437,12 +437,12 @@ fn child_fault<C: ChainView>(chain: &C, listed: &[Token], log: &[LogEntry]) -> O
     child_fault_in(chain, listed, log, 4)
 }
 
-/// The first new row of a table of children without its one Add entry, where the new rows and the
-/// log are in order.
 #[tactic(auto, unfolding(crate::specs::Judged::unowned_child, // a new child without its Add entry
 crate::specs::Judged::skipped_row, // a new row that isn't the next
 crate::specs::Judged::bad_entry // an entry out of order
 ))]
+/// The first new row of a table of children without its one Add entry, where the new rows and the
+/// log are in order.
 pub fn unowned_child<C: ChainView>(context: &Context<'_, C>) -> Option<Place>
     requires inserts { skipped_row context.now.chain context.now.delta ≡ None }
     requires log { bad_entry context.now.chain context.now.delta ≡ None }

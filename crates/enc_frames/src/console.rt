@@ -274,11 +274,11 @@ fn load_object(objects: &mut Objects, frame: &mut Frame, next: u32, class: Token
     }
 }
 
-/// `newobj` of a constructor outside: an object of the type that it is of (ECMA-335 III.4.21).
 #[tactic(auto, unfolding(crate::specs::Console::new_outside, // a new object of another module
 crate::specs::Machine::version_world, // what the frames see
 enc_opcodes::specs::Body::body_of // what a body's parts mean
 ))]
+/// `newobj` of a constructor outside: an object of the type that it is of (ECMA-335 III.4.21).
 pub fn new_outside<V: ModuleView>(
     view: &V,
     objects: &mut Objects,

@@ -21,11 +21,11 @@ impl Frame {
         Ok(())
     }
 
-    /// What an instruction does to its frame alone; behind it the frame goes on at an offset.
     #[tactic(auto, unfolding(crate::specs::FrameActs::frame_act, // what an act does to its frame
     crate::specs::Machine::version_world, // what the frames see
     enc_opcodes::specs::Body::body_of // what a body's parts mean
     ))]
+    /// What an instruction does to its frame alone; behind it the frame goes on at an offset.
     pub fn act<V: ModuleView>(
         &mut self,
         alloc: Global,

@@ -112,11 +112,11 @@ fn is_calling(b: u8) -> bool
     b < 0x80 && (b % 0x10 <= 5 || b % 0x10 == 9)
 }
 
-/// The first byte of a method and the count of its generic parameters.
 #[tactic(auto, unfolding(crate::specs::Grammar::calling_in, // how a method is called:
 crate::specs::Grammar::byte_in, // its first byte
 crate::specs::Grammar::generics_in // and its generic parameters
 ))]
+/// The first byte of a method and the count of its generic parameters.
 pub fn calling(bytes: &[u8]) -> Option<((u8, u32), &[u8])>
     ensures { option_map (λ x. ((x.0.0, x.0.1), x.1.now)) result ≡ calling_in bytes.now }
 {
