@@ -16,3 +16,4 @@ pub mod Known
 pub mod Rows
 pub mod Stops
 pub mod OneKey
+pub mod Operations

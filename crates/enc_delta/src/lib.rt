@@ -16,6 +16,7 @@ mod locals;
 mod log_entry;
 mod members;
 mod open;
+pub mod operations;
 mod pairs;
 mod place;
 mod rules;

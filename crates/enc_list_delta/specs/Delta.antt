@@ -10,6 +10,7 @@ use Rattle.enc_plain.specs.Cell.{Cell}
 use Rattle.enc_plain.specs.Chain.{Chain}
 use Rattle.enc_plain.specs.Fits.{cells_for}
 use Rattle.enc_plain.specs.Module.{Module}
+use Rattle.enc_delta.specs.Operations as operation
 use Rattle.enc_delta.specs.declared.log_entry.LogEntry.{LogEntry}
 use Rattle.enc_edit_list.specs.declared.edit.Edit.{Edit}
 use Rattle.enc_edit_list.specs.declared.edit.Edit.TheVariants.{Add, Body as Replace}
@@ -33,18 +34,18 @@ map_written c edits = flat_map (tokens_written c edits) (below 64)
 -- events
 abbrev pub add_code : ℕ → ℕ
 add_code table =
-    if table == tables.method_def then 1
-    else if table == tables.field then 2
-    else if table == tables.param then 3
-    else if table == tables.property then 4
-    else 5
+    if table == tables.method_def then operation.add_method
+    else if table == tables.field then operation.add_field
+    else if table == tables.param then operation.add_parameter
+    else if table == tables.property then operation.add_property
+    else operation.add_event
 
 abbrev pub add_entry : Attached → LogEntry
 add_entry a = record { token = a.owner; operation = add_code a.child.table }
 
 -- the entries of an edit: one that gives its row to the owner, where it has one, and one for the row
 unfoldable pub entries_for : Edit → Token → List LogEntry
-entries_for e row = map add_entry (attached_by e row) ++ record { token = row; operation = 0 } ∷ []
+entries_for e row = map add_entry (attached_by e row) ++ record { token = row; operation = operation.default } ∷ []
 
 -- the edit adds a row that refers to something else: one of AssemblyRef, MemberRef, MethodSpec, ModuleRef,
 -- StandAloneSig, TypeRef or TypeSpec (ECMA-335 II.22)

@@ -15,7 +15,7 @@ use enc_base::tables::{
     ASSEMBLY_REF, ENC_LOG, FIELD, MEMBER_REF, METHOD_DEF, METHOD_SPEC, MODULE_REF, PARAM, PROPERTY,
     STAND_ALONE_SIG, TYPE_REF, TYPE_SPEC,
 };
-use enc_delta::LogEntry;
+use enc_delta::{LogEntry, operations};
 use enc_edit_list::Edit;
 use enc_plain::ChainView;
 use enc_rows::TableBuilder;
@@ -28,11 +28,11 @@ fn add_code(child: u8) -> u32
     ensures { result ≡ add_code child }
 {
     match child {
-        METHOD_DEF => 1,
-        FIELD => 2,
-        PARAM => 3,
-        PROPERTY => 4,
-        _ => 5,
+        METHOD_DEF => operations::ADD_METHOD,
+        FIELD => operations::ADD_FIELD,
+        PARAM => operations::ADD_PARAMETER,
+        PROPERTY => operations::ADD_PROPERTY,
+        _ => operations::ADD_EVENT,
     }
 }
 
