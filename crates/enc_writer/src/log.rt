@@ -97,11 +97,11 @@ fn push_owner(edit: &Edit, row: Token, tables: &mut TableBuilder) -> Result<(), 
     if !is_child_table(*table) {
         return Ok(());
     }
-    let code = add_code(row.table);
+    let operation = add_code(row.table);
     push_entry(
         LogEntry {
             token: *owner,
-            code,
+            operation,
         },
         tables,
     )?;
@@ -121,7 +121,7 @@ fn push_entries(edit: &Edit, row: Token, tables: &mut TableBuilder) -> Result<()
     push_entry(
         LogEntry {
             token: row,
-            code: 0,
+            operation: 0,
         },
         tables,
     )?;
