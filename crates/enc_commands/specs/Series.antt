@@ -1,5 +1,5 @@
 -- For the contracts of private functions: the files of a generated case as far as they are made.
-use Rattle.std.specs.Prelude.{◌≡◌, ◌≤◌, ◌<◌, ℕ, List, ◌++◌, length, take, Some, Result, Ok, Err, slice_get}
+use Rattle.std.specs.Prelude.{◌≡◌, ◌≤◌, ℕ, List, ◌++◌, Some, Result, Ok, Err, slice_get}
 use Rattle.enc_base.specs.declared.token.Token.{Token}
 use Rattle.enc_base.specs.Tables as tables
 use Rattle.enc_plain.specs.Sound.{row_count}
@@ -40,14 +40,7 @@ pub record AreDrawn (lists : List EditList) : Type 0 where
   pub start : ℕ
   pub count : ℕ
   pub few : count ≤ 64
-  pub short : length lists ≤ 64
   pub lists_are : lists ≡ generated_lists start count
-
--- the lists before a place are made, and there is one at it
-pub record IsAt (out : List ℕ) (lists : List EditList) (k : ℕ) (s : Series) : Type 0 where
-  pub there : k < length lists
-  pub drawn : AreDrawn lists
-  pub series : IsSeries out (take k lists) s
 
 -- files are written for the list at a place, behind what was made
 abbrev pub StandAt : List EditList → ℕ → Series → DeltaBytes → Type 0

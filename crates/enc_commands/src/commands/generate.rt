@@ -1,5 +1,5 @@
 //! The command `gen`: a generated base, the deltas of generated edit lists, and the module after all.
-ghost use Rattle.std.specs.Prelude.{◌≡◌, ◌≤◌, ◌+◌, ◌++◌, ◌∷◌, [], Ok, Some, None, take, IsTrue, IfOk, OnOk, IsErrOf, string_bytes, map};
+ghost use Rattle.std.specs.Prelude.{◌≡◌, ◌≤◌, ◌<◌, ◌+◌, ◌++◌, ◌∷◌, [], Ok, Some, None, length, take, IsTrue, IfOk, OnOk, IsErrOf, string_bytes, map};
 ghost use Rattle.enc_base.specs.Tables.{method_def};
 ghost use Rattle.enc_plain.specs.Sound.{row_count};
 ghost use Rattle.enc_ppdb.specs.Written.{MeansPdb};
@@ -9,7 +9,7 @@ ghost use Rattle.enc_jobs.specs.Generated.{generated_base, generated_lists, edit
 ghost use Rattle.enc_commands.specs.Verdict.{meta, pdb, generates, plain_of, debug_after};
 ghost use Rattle.enc_commands.specs.Generating.{no_points, delta_name, last_name};
 ghost use Rattle.enc_command_line.specs.Case.{case_line as line_of_case};
-ghost use Rattle.enc_commands.specs.Series.{AreDrawn, IsAt, IsSeries, StandAt, NothingSaid};
+ghost use Rattle.enc_commands.specs.Series.{AreDrawn, IsSeries, StandAt, NothingSaid};
 ghost use Rattle.enc_command_line.specs.Commands.{numeral_seen};
 ghost use Rattle.enc_commands.specs.Plans.{IsPlanOf};
 ghost use Rattle.enc_commands.specs.Stops.{IfPlan};
@@ -128,7 +128,10 @@ fn add_delta(
     files: DeltaBytes,
     series: &mut Series,
 ) -> Result<(), Stop>
-    requires at { IsAt out.now lists.now k series.old }
+    requires there { k < length lists.now }
+    requires few { length lists.now ≤ 64 }
+    requires drawn { AreDrawn lists.now }
+    requires series { IsSeries out.now (take k lists.now) series.old }
     requires stand { StandAt lists.now k series.old files }
     ensures series { OnOk result (IsSeries out.now (take (k + 1) lists.now) series.new) }
     ensures said { NothingSaid result }
@@ -151,7 +154,10 @@ fn add_list(
     k: usize,
     series: &mut Series,
 ) -> Result<(), Stop>
-    requires at { IsAt out.now lists.now k series.old }
+    requires there { k < length lists.now }
+    requires few { length lists.now ≤ 64 }
+    requires drawn { AreDrawn lists.now }
+    requires series { IsSeries out.now (take k lists.now) series.old }
     ensures series { OnOk result (IsSeries out.now (take (k + 1) lists.now) series.new) }
     ensures said { NothingSaid result }
     ensures no_fault { ¬ (IsErrOf result Stop.Failed) }
@@ -168,6 +174,7 @@ fn add_list(
 
 /// Adds the deltas of all lists.
 fn add_lists(alloc: Global, out: &str, lists: &EditLists, series: &mut Series) -> Result<(), Stop>
+    requires few { length lists.now ≤ 64 }
     requires drawn { AreDrawn lists.now }
     requires series { IsSeries out.now [] series.old }
     ensures series { OnOk result (IsSeries out.now lists.now series.new) }
