@@ -388,7 +388,7 @@ static uint8_t buffer[1 << 22];
     } \
 } while (0)
 
-static enc_handle h;
+static enc_module h;
 static void look_at_column(uint32_t token, uint8_t column) {
     uint32_t n;
     uint32_t s = enc_number(&h, token, column, &n);

@@ -279,6 +279,8 @@ def main(library):
     is_so("closing once more", (enc.enc_close(at), handle.value), (7, None))
     refusal, words = Refusal(letter=ord("E"), rule=16, place=10, table=6, row=1), ctypes.create_string_buffer(17)
     is_so("the words of a refusal", (enc.enc_words(ctypes.byref(refusal), words, size_t(17), ctypes.byref(size)), words.raw), (0, b"E16 06000001.RVA\n"))
+    major, minor, patch = (int(n) for n in open(os.path.join(os.path.dirname(os.path.abspath(__file__)), "..", "VERSION")).read().split("."))
+    is_so("the release", enc.enc_version(), (major << 16) + (minor << 8) + patch)
     is_so("the words of none", enc.enc_words(ctypes.byref(Refusal()), words, size_t(17), ctypes.byref(size)), 11)
     said = lambda letter, rule, place, table=0, column=0: enc.enc_words(ctypes.byref(Refusal(letter=ord(letter), rule=rule, place=place, table=table,
                                                                                              column=column, row=1)), words, size_t(17), ctypes.byref(size))

@@ -14,7 +14,7 @@ static size_t load(int i, const char *name)
 
 int main(void)
 {
-    enc_handle module = NULL;
+    enc_module module = NULL;
     enc_refusal why;
     uint32_t type, rows[4];
     size_t size, base = load(0, "examples/bank/bank.dll"), meta = load(1, "examples/bank/bank1.meta"), il = load(2, "examples/bank/bank1.il");

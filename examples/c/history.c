@@ -26,9 +26,9 @@ static struct file load(const char *folder, const char *name, const char *end)
     return file;
 }
 
-static enc_handle opened(const char *folder, const char *base, uint32_t deltas)
+static enc_module opened(const char *folder, const char *base, uint32_t deltas)
 {
-    enc_handle module = NULL;
+    enc_module module = NULL;
     enc_refusal why;
     struct file dll = load(folder, base, ".dll"), pdb = load(folder, base, ".pdb");
     uint32_t status = enc_open(&module, dll.bytes, dll.length, pdb.bytes, pdb.length, &why);
@@ -58,7 +58,7 @@ static void compare(uint32_t status, uint32_t other, size_t size, size_t size_th
     same++;
 }
 
-static void show(enc_handle *module, enc_handle *plain, uint32_t g, uint32_t token)
+static void show(enc_module *module, enc_module *plain, uint32_t g, uint32_t token)
 {
     size_t a = 0, b = 0;
     enc_code_head head = {0, 0, 0}, other = {0, 0, 0};
@@ -82,11 +82,11 @@ static void show(enc_handle *module, enc_handle *plain, uint32_t g, uint32_t tok
 int main(int count, char **words)
 {
     if (count != 3) return 2;
-    enc_handle module = opened(words[1], words[2], UINT32_MAX);
+    enc_module module = opened(words[1], words[2], UINT32_MAX);
     uint32_t generations = 0;
     enc_generations(&module, &generations);
     for (uint32_t g = 0; g < generations; g++) {
-        enc_handle plain = opened(words[1], words[2], g);
+        enc_module plain = opened(words[1], words[2], g);
         printf("generation %u\n", g);
         for (int table = 0; table < 0x40; table++) {
             uint32_t rows = 0, other = 0;

@@ -31,7 +31,7 @@ static void say_refusal(const char *name, const char *ending, const enc_refusal 
 }
 
 /* The rows whose newest place is this generation, as they are now. */
-static void say_changed(enc_handle *module, uint32_t generation) {
+static void say_changed(enc_module *module, uint32_t generation) {
     for (uint32_t table = 0; table < 0x40; table++) {
         uint32_t rows = 0;
         enc_count(module, (uint8_t)table, &rows);
@@ -49,13 +49,13 @@ static void say_changed(enc_handle *module, uint32_t generation) {
     }
 }
 
-static uint32_t apply(enc_handle *module, const file *d, enc_refusal *refusal) {
+static uint32_t apply(enc_module *module, const file *d, enc_refusal *refusal) {
     return enc_apply(module, d[0].at, d[0].length, d[1].at, d[1].length, d[2].at, d[2].length, refusal);
 }
 
 /* One round: a base cut short is refused, and so is a delta cut short, which changes nothing; a handle is closed once. */
 static int round_of(file base, file pdb, const file *d) {
-    enc_handle module = NULL;
+    enc_module module = NULL;
     enc_refusal refusal = {0};
     uint32_t before = 0, after = 0;
     file cut[3] = {{d[0].at, d[0].length / 2}, d[1], d[2]};
@@ -73,7 +73,7 @@ int main(int count, char **words) {
     const char *folder = words[1], *name = words[2];
     const int rounds = count > 3 ? atoi(words[3]) : 0;
     const file base = load(folder, name, "dll"), pdb = load(folder, name, "pdb");
-    enc_handle module = NULL;
+    enc_module module = NULL;
     enc_refusal refusal;
     uint32_t status = enc_open(&module, base.at, base.length, pdb.at, pdb.length, &refusal);
     if (status == ENC_REFUSED) say_refusal(name, "dll", &refusal);

@@ -8,7 +8,7 @@ ghost use Rattle.enc_agg.specs.Directory.{row_key, kids_key, place_seen, HasPlac
 
 use crate::added::{Added, Found};
 use enc_base::Token;
-use enc_key_map::{Entry, Index, Key};
+use enc_key_map::{Index, Key, KeyEntry};
 use enc_plain::RowPlace;
 use std::alloc::AllocError;
 
@@ -40,10 +40,10 @@ impl Drop for Directory {
 /// What a delta brings to a directory, with the room that it takes there.
 #[derive(Drop)]
 pub struct Entries {
-    pub places: Vec<Entry<RowPlace>>,
-    pub owners: Vec<Entry<Token>>,
-    pub counts: Vec<Entry<u32>>,
-    pub kids: Vec<Entry<u32>>,
+    pub places: Vec<KeyEntry<RowPlace>>,
+    pub owners: Vec<KeyEntry<Token>>,
+    pub counts: Vec<KeyEntry<u32>>,
+    pub kids: Vec<KeyEntry<u32>>,
 }
 
 /// Appends a row that may be kept.

@@ -5,13 +5,13 @@ ghost use Rattle.enc_key_map.specs.Key.{is_key};
 ghost use Rattle.enc_key_map.specs.Index.{latest, either};
 ghost use Rattle.enc_agg.specs.Directory.{IsSame};
 
-use enc_key_map::{Entry, Index, Key, push_entry};
+use enc_key_map::{Index, Key, KeyEntry, push_entry};
 use std::alloc::{AllocError, Global};
 
 /// The values of some keys, as entries with the room that they take in an index, and in an index.
 #[derive(Drop)]
 pub struct Kept<V> {
-    pub entries: Vec<Entry<V>>,
+    pub entries: Vec<KeyEntry<V>>,
     pub own: Index<V>,
 }
 
@@ -36,7 +36,7 @@ impl<V: Copy + Drop> Kept<V> {
         ensures entries { IfOk result (λ _. (q : TheKey) → latest self.new.entries.items q
             ≡ either (if is_key key q then Some value else None) (latest self.old.entries.items q)) }
     {
-        let entry = Entry::new(alloc, key, value)?;
+        let entry = KeyEntry::new(alloc, key, value)?;
         push_entry(&mut self.entries, alloc, key, value)?;
         self.own.put(entry);
         Ok(())

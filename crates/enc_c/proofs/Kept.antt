@@ -1,48 +1,53 @@
--- A base alone is kept, and so is what comes with a delta that is accepted.
-use Rattle.std.proofs.Common.{◌≡◌, ℕ, suc, Bool, true, false, List, ◌∷◌, Option, Some, None, Ok, refl, ap, arith}
+-- A handle stays as it has to be with a delta that is accepted.
+use Rattle.std.proofs.Common.{◌≡◌, ℕ, Bool, true, false, List, [], ◌∷◌, length, Option, Ok, Err, Result, refl, sym, subst, arith}
 use Rattle.std.specs.Prelude.{◌&&◌}
 use Rattle.std.proofs.lemmas.Bool.Decides.{nat_tests}
+use Rattle.enc_base.specs.declared.refusal.Refusal.{Refusal}
 use Rattle.enc_rows.specs.Source.{Source}
-use Rattle.enc_plain.specs.SoundDebug.{KnowsWithin}
+use Rattle.enc_plain.specs.Chain.{Chain}
 use Rattle.enc_delta.specs.Delta.{delta_of}
-use Rattle.enc_delta.specs.Seen.{WasRead}
-use Rattle.enc_image.specs.Base.{chain_of_base}
-use Rattle.enc_agg.specs.Extend.{chain_with}
-use Rattle.enc_ppdb.specs.Fault.{pdb_of}
-use Rattle.enc_ppdb.specs.PdbChain.{DebugDelta, pdb_begun, pdb_with}
 use Rattle.enc_checker.specs.Check.{Accepted, judged}
-use Rattle.enc_checker.specs.Within.{method_count, BaseKnowsWithin, DeltaKnowsWithin}
-use Rattle.enc_merge.specs.Merges.{AcceptedGo, AllGo, GoesWith, IsShortDelta, ReadIsShort}
-use Rattle.enc_c.specs.Kept.{AllGoIf, IsKept}
-use Rattle.enc_c.specs.State.{State, begun_state, chain_after, followed_state, is_short_delta}
+use Rattle.enc_ppdb.specs.PdbChain.{DebugDelta}
+use Rattle.enc_chain.specs.Goes.{AllGo}
+use Rattle.enc_chain.proofs.AcceptedGoes.{accepted_delta}
+use Rattle.enc_merge.specs.Merges.{AllShort, IsShortDelta, ReadIsShort}
+use Rattle.enc_c.specs.State.{is_short_delta}
 
-begun_with : (b : Source) (p : Option Source) → KnowsWithin (pdb_begun p) (method_count (chain_of_base b)) → IsKept (begun_state b p)
-unfolding chain_with pdb_with AllGo
-begun_with b p within = record { within = within; go = tt; paired = refl }
+-- a delta that was read of short files, and is accepted
+short_delta : (c : Chain) (meta il : List ℕ) (r : Result Source Refusal) (pdb : Option (List ℕ)) (a : Accepted) → ReadIsShort → delta_of meta il ≡ r → judged c r pdb ≡ Ok a → is_short_delta meta il ≡ true → IsShortDelta a.delta
+unfolding is_short_delta
+short_delta c meta il (Ok d) pdb a law read e is = subst IsShortDelta (sym (accepted_delta c d pdb a e)) (law meta il d (grind (arith, nat_tests)) (grind (arith, nat_tests)) read)
+short_delta c meta il (Err f) pdb a law read e is = absurd cc
 
--- a base, with its PDB or without
-pub begun_bare : (b : Source) → BaseKnowsWithin → IsKept (begun_state b None)
-begun_bare b law = begun_with b None (law.1 (method_count (chain_of_base b)))
-
-pub begun_kept : (b p : Source) (bytes : List ℕ) → BaseKnowsWithin → pdb_of bytes (method_count (chain_of_base b)) ≡ Ok p → IsKept (begun_state b (Some p))
-begun_kept b p bytes law is = begun_with b (Some p) (law.0 b bytes p is)
+first_is : (s t : Bool) → (s && t) ≡ true → (s ≡ true) × (t ≡ true)
+first_is true true e = (refl, refl)
+first_is true false e = absurd cc
+first_is false t e = absurd cc
 
 -- one more delta
-more_go : (s t : Bool) (a : Accepted) (x : DebugDelta) (deltas : List Source) (debugs : List DebugDelta) → GoesWith a.delta x → (t ≡ true → IsShortDelta a.delta) → AllGoIf s deltas debugs
-    → AllGoIf (s && t) (a.delta ∷ deltas) (x ∷ debugs)
+pub more_short : (c : Chain) (meta il : List ℕ) (pdb : Option (List ℕ)) (a : Accepted) (s : Bool) (deltas new : List Source) → ReadIsShort → judged c (delta_of meta il) pdb ≡ Ok a → (s ≡ true → AllShort deltas)
+    → new ≡ a.delta ∷ deltas → (s && is_short_delta meta il) ≡ true → AllShort new
+unfolding AllShort
+more_short c meta il pdb a s deltas new law e short is both =
+    let b = first_is s (is_short_delta meta il) both in
+    subst AllShort (sym is) (short_delta c meta il (delta_of meta il) pdb a law refl e b.1, short b.0)
+
+-- none are
+pub short_none : (deltas : List Source) → deltas ≡ [] → AllShort deltas
+unfolding AllShort
+short_none deltas none = subst AllShort (sym none) tt
+
+pub and_both : (s t : Bool) → s ≡ true → t ≡ true → (s && t) ≡ true
+and_both s t one other = rw (one, other) refl
+
+pub not_both : (b : Bool) → b ≡ false → b ≡ true → ⊥
+not_both true e is = absurd cc
+not_both false e is = absurd cc
+
+-- as many deltas as what is said of their points
+pub go_paired : (deltas : List Source) (debugs : List DebugDelta) → AllGo deltas debugs → length deltas ≡ length debugs
 unfolding AllGo
-more_go true true a x deltas debugs one short all = (one, (short refl, all))
-more_go true false a x deltas debugs one short all = tt
-more_go false t a x deltas debugs one short all = tt
-
-short_delta : (meta il : List ℕ) (a : Accepted) → ReadIsShort → delta_of meta il ≡ Ok a.delta → is_short_delta meta il ≡ true → IsShortDelta a.delta
-unfolding is_short_delta
-short_delta meta il a law read is = law meta il a.delta (grind (arith, nat_tests)) (grind (arith, nat_tests)) read
-
-pub followed_kept : (s : State) (meta il : List ℕ) (bytes : Option (List ℕ)) (a : Accepted) → DeltaKnowsWithin → AcceptedGo → ReadIsShort → WasRead a.delta → delta_of meta il ≡ Ok a.delta
-    → judged (chain_after s) (delta_of meta il) bytes ≡ Ok a → IsKept s → IsKept (followed_state s (is_short_delta meta il) a)
-followed_kept s meta il bytes a within go short read delta is kept = record {
-  within = within s.base s.deltas (delta_of meta il) bytes a read is s.pdb s.debugs kept.within;
-  go = more_go s.short (is_short_delta meta il) a _ s.deltas s.debugs (go (chain_after s) (delta_of meta il) bytes a is) (short_delta meta il a short delta) kept.go;
-  paired = ap suc kept.paired;
-}
+go_paired [] [] all = refl
+go_paired [] (x ∷ debugs) all = absurd all
+go_paired (d ∷ deltas) [] all = absurd all
+go_paired (d ∷ deltas) (x ∷ debugs) all = rw (go_paired deltas debugs all.1) refl

@@ -15,7 +15,7 @@ use Rattle.enc_ppdb.specs.PdbChain.{points_at, documents_at}
 use Rattle.enc_text.specs.RowText.{row_text_of}
 use Rattle.enc_c.specs.declared.status.Status.{Status}
 use Rattle.enc_c.specs.declared.status.Status.TheVariants.{Closed, Absent, Unlike, Later}
-use Rattle.enc_c.specs.declared.asked.PlaceNumbers.{PlaceNumbers}
+use Rattle.enc_c.specs.declared.newest_module.PlaceNumbers.{PlaceNumbers}
 use Rattle.enc_c.specs.declared.points.PointNumbers.{PointNumbers}
 use Rattle.enc_c.specs.Cells.{of_row}
 use Rattle.enc_c.specs.Points.{points_numbers, name_told}
@@ -49,7 +49,7 @@ abbrev pub row_place : RowPlace → PlaceNumbers
 row_place p = record { generation = p.generation; position = p.row }
 
 unfoldable pub asked_place : State → Token → Result PlaceNumbers Status
-asked_place s t = of_row (module_after s) t (Ok (row_place (place_of s.deltas t)))
+asked_place s t = of_row (module_after s) t (Ok (row_place (place_of s.followed.deltas t)))
 
 -- and where an offset of a joined heap stands
 abbrev pub told_heap_place : Option HeapPlace → Result PlaceNumbers Status
@@ -65,7 +65,8 @@ asked_heap_place s heap offset = told_heap_place_by (chain_after s) (stream_by h
 
 -- the printed row
 unfoldable pub asked_row : State → Token → Result (List ℕ) Status
-asked_row s t = of_row (module_after s) t (Ok (row_text_of (module_after s) (pdb_after s) (place_of s.deltas t) t))
+asked_row s t =
+    of_row (module_after s) t (Ok (row_text_of (module_after s) (pdb_after s) (place_of s.followed.deltas t) t))
 
 -- why nothing is said of a token: it is no row, or no method
 abbrev pub unlike_method : State → Token → Option Status
@@ -78,15 +79,16 @@ unless_unlike (Some s) answer = Err s
 
 -- the points of a method, by numbers, as the newest file that knows it says them
 unfoldable pub asked_points : State → Token → Result (List PointNumbers) Status
-asked_points s t = unless_unlike (unlike_method s t) (Ok (points_numbers (points_at (known_at s.pdb s.debugs t))))
+asked_points s t =
+    unless_unlike (unlike_method s t) (Ok (points_numbers (points_at (known_at s.followed.debug s.followed.debugs t))))
 
 -- the name of the document that a number of its points means
 unfoldable pub asked_document : State → Token → ℕ → Result (List ℕ) Status
 asked_document s t number = unless_unlike (unlike_method s t)
-    (name_told (documents_at (known_at s.pdb s.debugs t) number))
+    (name_told (documents_at (known_at s.followed.debug s.followed.debugs t) number))
 
 -- the points and the documents that are told of a method are those of the plain PDB
 abbrev pub PointsAreThePdbs : Type 0
 PointsAreThePdbs =
-    (s : State) (t : Token) → debug_of (documents_at (known_at s.pdb s.debugs t))
-    (points_at (known_at s.pdb s.debugs t)) ≡ pdb_after s t
+    (s : State) (t : Token) → debug_of (documents_at (known_at s.followed.debug s.followed.debugs t))
+    (points_at (known_at s.followed.debug s.followed.debugs t)) ≡ pdb_after s t

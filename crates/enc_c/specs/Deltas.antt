@@ -47,17 +47,18 @@ unmerged_last short base (b ∷ a ∷ older) after =
 
 -- so it is of a state
 unfoldable pub unmerged : State → Option Unwritten
-unmerged s = unmerged_last s.short s.base s.deltas (pdb_after s)
+unmerged s = unmerged_last s.short s.followed.base s.followed.deltas (pdb_after s)
 
 -- the files of a delta stand for the last two
 abbrev pub StandsForTwo : State → List Source → DeltaBytes → Type 0
 StandsForTwo s (b ∷ a ∷ older) d =
-    StandsForBoth (chain_with s.base older) a b (pdb_with s.pdb (drop 2 s.debugs)) (pdb_after s) d
+    StandsForBoth (chain_with s.followed.base older) a b
+    (pdb_with s.followed.debug (drop 2 s.followed.debugs)) (pdb_after s) d
 StandsForTwo s deltas d = ⊥
 
 -- for the last two of a state
 abbrev pub StandsForLast : State → DeltaBytes → Type 0
-StandsForLast s d = StandsForTwo s s.deltas d
+StandsForLast s d = StandsForTwo s s.followed.deltas d
 
 -- why a text is no edit list (L3 is of scripts alone)
 abbrev pub reason_of_fault : JobFault → Unwritten

@@ -5,7 +5,6 @@ use Rattle.enc_meta.specs.Joined.{joined_user}
 use Rattle.enc_agg.specs.Stored.{code_stored}
 use Rattle.enc_opcodes.specs.Body.{Body}
 use Rattle.enc_remap.specs.Asked.{may_remap}
-use Rattle.enc_remap.specs.declared.asked.Standing.{Standing}
 use Rattle.enc_c.specs.Asked.{asked_document, asked_points, asked_row, unless_unlike, unlike_method}
 use Rattle.enc_c.specs.Code.{asked_body, TellsBody}
 use Rattle.enc_c.specs.History.{of_generation}
@@ -23,10 +22,12 @@ first_of_all g xs = drop (length xs - g) xs
 -- what an open handle meant after its first so many deltas
 abbrev pub state_at : ℕ → State → State
 state_at g s = record {
-  base = s.base;
-  deltas = first_of_all g s.deltas;
-  pdb = s.pdb;
-  debugs = first_of_all g s.debugs;
+  followed = record {
+    base = s.followed.base;
+    deltas = first_of_all g s.followed.deltas;
+    debug = s.followed.debug;
+    debugs = first_of_all g s.followed.debugs;
+  };
   short = s.short;
 }
 
@@ -49,8 +50,8 @@ TellsBodyAt None g t number old new before count head head_new =
     TellsBody (λ (offset : ℕ). None) None number old new before count head head_new (Err Closed)
 TellsBodyAt (Some s) g t number old new before count head head_new =
     TellsBody (joined_user (chain_after (state_at g s)).heaps)
-    (code_stored (state_at g s).base (state_at g s).deltas t) number old new before count head head_new
-    (asked_body_at s g t)
+    (code_stored (state_at g s).followed.base (state_at g s).followed.deltas t)
+    number old new before count head head_new (asked_body_at s g t)
 
 -- the number of the first rule that a move breaks, 0 where it breaks none; a method without a body has no frames
 abbrev pub rule_told : Option (Option ℕ) → Result ℕ Status

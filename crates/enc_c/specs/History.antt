@@ -1,5 +1,5 @@
 -- What the generations of an open handle brought.
-use Rattle.std.specs.Prelude.{ℕ, ◌-◌, List, [], drop, length, map, Option, Some, None, Result, Ok, Err, slice_get, nat_lt, nat_le, if◌then◌else◌}
+use Rattle.std.specs.Prelude.{ℕ, ◌-◌, List, [], drop, length, map, Option, Some, None, Result, Ok, Err, slice_get, nat_lt, if◌then◌else◌}
 use Rattle.enc_agg.specs.Extend.{chain_with}
 use Rattle.enc_agg.specs.Place.{delta_at}
 use Rattle.enc_base.specs.Token.{number_of}
@@ -39,7 +39,9 @@ entries_told before None = []
 entries_told before (Some d) = map (entry_by_numbers before) (listed d)
 
 unfoldable pub asked_entries : State → ℕ → Result (List EntryNumbers) Status
-asked_entries s g = of_generation s g (Ok (entries_told (before_generation s.base s.deltas g) (delta_at s.deltas g)))
+asked_entries s g =
+    of_generation s g
+    (Ok (entries_told (before_generation s.followed.base s.followed.deltas g) (delta_at s.followed.deltas g)))
 
 -- the lengths of a generation's own heaps
 abbrev pub lengths_told : HeapLengths → LengthNumbers
@@ -54,4 +56,5 @@ asked_lengths s g = lengths_by (slice_get (chain_after s).heaps g)
 
 -- how many rows a table had after the first so many deltas
 unfoldable pub asked_count_at : State → ℕ → ℕ → Result ℕ Status
-asked_count_at s g table = of_generation s g (Ok (length (rows_in (upto_generation s.base s.deltas g).plain table)))
+asked_count_at s g table =
+    of_generation s g (Ok (length (rows_in (upto_generation s.followed.base s.followed.deltas g).plain table)))

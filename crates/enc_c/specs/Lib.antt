@@ -26,3 +26,4 @@ pub mod SessionHandle
 pub mod SessionNumbers
 pub mod SessionSeen
 pub mod SessionCalls
+pub mod Version

@@ -14,5 +14,5 @@ abbrev pub TellsBodyOf : Option State → Token → ℕ → List ℕ → List �
 TellsBodyOf None t number old new before count head head_new =
     TellsBody (λ offset. None) None number old new before count head head_new (Err Closed)
 TellsBodyOf (Some s) t number old new before count head head_new =
-    TellsBody (joined_user (chain_after s).heaps)
-    (code_stored s.base s.deltas t) number old new before count head head_new (asked_body (module_after s) t)
+    TellsBody (joined_user (chain_after s).heaps) (code_stored s.followed.base s.followed.deltas t)
+    number old new before count head head_new (asked_body (module_after s) t)

@@ -31,7 +31,7 @@ use Rattle.enc_c.specs.declared.status.Status.TheVariants.{Done, Refused, Memory
 
 -- a session over a base that was opened: no deltas, and nothing recorded
 abbrev pub session_over : Result State Refusal → ℕ → Result Recorded Refusal
-session_over (Ok s) limit = Ok (recorded_base s.base s.pdb limit)
+session_over (Ok s) limit = Ok (recorded_base s.followed.base s.followed.debug limit)
 session_over (Err e) limit = Err e
 
 -- how many events so many steps tell at most

@@ -8,29 +8,26 @@ use Rattle.enc_plain.specs.Chain.{Chain}
 use Rattle.enc_plain.specs.Debug.{PlainPdb}
 use Rattle.enc_image.specs.Base.{base_of, chain_of_base}
 use Rattle.enc_delta.specs.Delta.{delta_of}
-use Rattle.enc_agg.specs.Extend.{chain_with}
 use Rattle.enc_ppdb.specs.Fault.{pdb_of}
-use Rattle.enc_ppdb.specs.PdbChain.{DebugDelta, pdb_with}
-use Rattle.enc_checker.specs.Check.{Accepted, judged, new_bodies}
+use Rattle.enc_checker.specs.Check.{Accepted, judged}
+use Rattle.enc_checker.specs.Followed.{Followed, debug_after, followed_by}
+use Rattle.enc_chain.specs.Kept.{chain_of}
+use Rattle.enc_chain.specs.Opened.{chain_begun}
 
--- a base and its PDB, where it has one, and the deltas with what they say of methods, the newest first; and whether
--- all deltas are short enough to be merged
+-- a base with its PDB and the deltas that follow it, and whether all deltas are short enough to be merged
 pub record State : Type 0 where
-  pub base : Source
-  pub deltas : List Source
-  pub pdb : Option Source
-  pub debugs : List DebugDelta
+  pub followed : Followed
   pub short : Bool
 
 -- the chain, the plain module and the plain PDB after all deltas
 abbrev pub chain_after : State → Chain
-chain_after s = chain_with s.base s.deltas
+chain_after s = chain_of s.followed
 
 abbrev pub module_after : State → Module
 module_after s = (chain_after s).plain
 
 abbrev pub pdb_after : State → PlainPdb
-pdb_after s = pdb_with s.pdb s.debugs
+pdb_after s = debug_after s.followed
 
 -- bytes that may be absent: where there are none
 abbrev pub given_bytes : List ℕ → Option (List ℕ)
@@ -39,7 +36,7 @@ given_bytes (b ∷ bytes) = Some (b ∷ bytes)
 
 -- a base without deltas
 abbrev pub begun_state : Source → Option Source → State
-begun_state base pdb = record { base = base; deltas = []; pdb = pdb; debugs = []; short = true }
+begun_state base pdb = record { followed = chain_begun base pdb; short = true }
 
 abbrev pub begun_state_with : Source → Result Source Refusal → Result State Refusal
 begun_state_with base (Ok pdb) = Ok (begun_state base (Some pdb))
@@ -68,13 +65,7 @@ is_short_delta meta il = nat_le (length meta) most_to_merge && nat_le (length il
 
 -- with a delta that is accepted, and may be short
 abbrev pub followed_state : State → Bool → Accepted → State
-followed_state s short a = record {
-  base = s.base;
-  deltas = a.delta ∷ s.deltas;
-  pdb = s.pdb;
-  debugs = (record { pdb = a.pdb; changed = new_bodies a.delta }) ∷ s.debugs;
-  short = s.short && short;
-}
+followed_state s short a = record { followed = followed_by s.followed a; short = s.short && short }
 
 abbrev pub followed_state_if : State → Bool → Result Accepted Refusal → Result State Refusal
 followed_state_if s short (Ok a) = Ok (followed_state s short a)

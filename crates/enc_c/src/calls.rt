@@ -7,8 +7,8 @@ ghost use Rattle.enc_c.specs.Cells.{asked_number, asked_token};
 ghost use Rattle.enc_c.specs.Family.{asked_owner};
 ghost use Rattle.enc_c.specs.Asked.{of_open, told_by_number, asked_generations, asked_count, asked_place, asked_heap_place};
 
-use crate::asked::PlaceNumbers;
 use crate::handle::{Handle, put, take};
+use crate::newest_module::PlaceNumbers;
 use crate::status::{Status, tell};
 use enc_base::Token;
 use std::alloc::Global;

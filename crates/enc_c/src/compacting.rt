@@ -60,8 +60,8 @@ impl Held {
         requires { list_at order.now ≡ new_order (module_after self.now) }
         ensures { IfOk result (λ v. v.items ≡ moves_told (module_after self.now)) }
     {
-        self.agg.sound();
-        let moves = moved_rows(alloc, &self.agg, order)?;
+        self.chain.rows().sound();
+        let moves = moved_rows(alloc, self.chain.rows(), order)?;
         numbers_of(alloc, &moves)
     }
 
@@ -76,10 +76,11 @@ impl Held {
         ensures tells { TellsLimit result (rewrite_limit (module_moved (module_after self.now))
             (pdb_moved (module_after self.now) (pdb_after self.now))) }
     {
-        self.agg.sound();
-        self.debug.sound();
+        self.chain.holds();
+        self.chain.rows().sound();
+        self.chain.points().sound();
         compact_laws();
-        let ordinary = compact(alloc, &self.agg, &self.debug)?;
+        let ordinary = compact(alloc, self.chain.rows(), self.chain.points())?;
         let files = match rewrite(alloc, &ordinary.module, &ordinary.points) {
             Ok(files) => files,
             Err(fault) => return Err(fault),

@@ -218,8 +218,7 @@ pub extern "C" fn enc_code(
     status
 }
 
-/// Copies the words of a refusal: its rule and its place, as the program prints them, and the end of
-/// a line.
+/// Copies the words of a refusal: its rule and its place, as the program prints them, and the end of a line.
 #[unsafe(no_mangle)]
 pub extern "C" fn enc_words(
     alloc: Global,

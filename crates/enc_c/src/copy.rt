@@ -6,8 +6,7 @@ ghost use Rattle.enc_c.specs.Family.{items_listed};
 
 use crate::status::Status;
 
-/// Copies all items into a buffer, or none where it is too short; how many there are is told in any
-/// case.
+/// Copies all items into a buffer, or none where it is too short; how many there are is told in any case.
 #[tactic(auto, unfolding(crate::specs::Copied::copied, crate::specs::Copied::status_of_copy))]
 pub fn copy_out<T: Copy>(items: &[T], buffer: &mut [T], size: &mut usize) -> u32
     ensures { IsCopiedOut result buffer.old buffer.new size.new items.now }

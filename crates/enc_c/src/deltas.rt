@@ -39,9 +39,9 @@ fn unread(fault: JobFault) -> Unwritten
 impl Held {
     /// How many deltas there are.
     fn delta_count(&self) -> u32
-        ensures { result ≡ length self.now.deltas }
+        ensures { result ≡ length self.now.followed.deltas }
     {
-        self.agg.generations() - 1
+        self.chain.rows().generations() - 1
     }
 
     /// The delta that stands for the last two: `Few` where there are fewer, `Limit` where a delta is too
@@ -57,7 +57,8 @@ impl Held {
         if !self.short {
             return Err(Unwritten::Only(Status::Limit));
         }
-        match merge_last(alloc, &self.agg, &self.debug) {
+        self.chain.holds();
+        match merge_last(alloc, self.chain.rows(), self.chain.points()) {
             Ok(files) => Ok(files),
             Err(MergeFault::Memory) => Err(Unwritten::Only(Status::Memory)),
             Err(MergeFault::TooLarge) => Err(Unwritten::Because(Reason::Heap(StreamName::Pdb))),
@@ -75,7 +76,7 @@ impl Held {
             Ok(list) => list,
             Err(fault) => return Err(unread(fault)),
         };
-        match write_delta(alloc, &self.agg, &list) {
+        match write_delta(alloc, self.chain.rows(), &list) {
             Ok(files) => Ok(files),
             Err(EditFault::Memory) => Err(Unwritten::Only(Status::Memory)),
             Err(EditFault::Broken(rule, edit)) => Err(Unwritten::Because(Reason::Edit(rule, edit))),

@@ -55,11 +55,11 @@ impl Held {
         if !self.has_generation(generation) {
             return Err(Status::Later);
         }
-        let view = self.agg.at(generation);
+        let view = self.chain.rows().at(generation);
         if !is_row(&view, row) {
             return Err(Status::Absent);
         }
-        let points = self.debug.at(generation);
+        let points = self.chain.points().at(generation);
         let mut text = Vec::new(alloc);
         match row_text(alloc, &view, &points, view.place(row), row, &mut text) {
             Ok(()) => Ok(text),
@@ -80,10 +80,10 @@ impl Held {
         if !self.has_generation(generation) {
             return Err(Status::Later);
         }
-        if let Some(status) = unlike_in(&self.agg.at(generation), method) {
+        if let Some(status) = unlike_in(&self.chain.rows().at(generation), method) {
             return Err(status);
         }
-        match points(alloc, &self.debug.at(generation), method) {
+        match points(alloc, &self.chain.points().at(generation), method) {
             Ok(points) => Ok(points),
             Err(AllocError) => Err(Status::Memory),
         }
@@ -103,10 +103,10 @@ impl Held {
         if !self.has_generation(generation) {
             return Err(Status::Later);
         }
-        if let Some(status) = unlike_in(&self.agg.at(generation), method) {
+        if let Some(status) = unlike_in(&self.chain.rows().at(generation), method) {
             return Err(status);
         }
-        document_name(alloc, &self.debug.at(generation), method, number)
+        document_name(alloc, &self.chain.points().at(generation), method, number)
     }
 
     /// Whether a frame of a method, which has the method's body of the first so many deltas and stands at an offset,
@@ -125,17 +125,17 @@ impl Held {
         if !self.has_generation(generation) {
             return Err(Status::Later);
         }
-        let view = self.agg.at(generation);
+        let view = self.chain.rows().at(generation);
         if let Some(status) = unlike_in(&view, at.method) {
             return Err(status);
         }
         let old = Edition {
             view: &view,
-            points: &self.debug.at(generation),
+            points: &self.chain.points().at(generation),
         };
         let newest = Edition {
-            view: &self.agg,
-            points: &self.debug,
+            view: self.chain.rows(),
+            points: self.chain.points(),
         };
         let asked = may_remap(alloc, &old, &newest, at, pairs);
         let Edition { view: _, points: _ } = old;

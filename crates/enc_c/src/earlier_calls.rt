@@ -84,7 +84,7 @@ fn copy_code_at(
     if !held.has_generation(generation) {
         return Status::Later.number();
     }
-    let view = held.agg.at(generation);
+    let view = held.chain.rows().at(generation);
     copy_code(code_in(&view, method), buffer, size, head)
 }
 

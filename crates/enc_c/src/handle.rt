@@ -10,8 +10,7 @@ use std::marker::Model;
 use std::mem::replace;
 use std::ptr::null_mut;
 
-/// A module that C holds. It means nothing where it is closed, and else a base with the deltas that
-/// follow it.
+/// A module that C holds. It means nothing where it is closed, and else a base with the deltas that follow it.
 #[repr(C)]
 pub struct Handle {
     at: *mut u8,

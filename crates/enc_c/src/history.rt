@@ -95,10 +95,11 @@ impl Held {
     #[tactic(auto, using(enc_agg::proofs::Histories::heaps_count))]
     pub fn has_generation(&self, generation: u32) -> bool
         ensures there { result ≡ nat_lt generation (length (chain_after self.now).heaps) }
-        ensures few { IsTrue result → generation ≤ length self.now.deltas }
-        ensures paired { IsTrue result → generation ≤ length self.now.debugs }
+        ensures few { IsTrue result → generation ≤ length self.now.followed.deltas }
+        ensures paired { IsTrue result → generation ≤ length self.now.followed.debugs }
     {
-        generation < self.agg.generations()
+        self.chain.holds();
+        generation < self.chain.rows().generations()
     }
 
     /// The tokens of a generation's EncMap but the Module's, in the map's order; of the base none.
@@ -109,13 +110,13 @@ impl Held {
         if !self.has_generation(generation) {
             return Err(Status::Later);
         }
-        let Some(delta) = self.agg.delta(generation) else {
+        let Some(delta) = self.chain.rows().delta(generation) else {
             return Ok(Vec::new(alloc));
         };
         let Ok(tokens) = delta.tokens(alloc) else {
             return Err(Status::Memory);
         };
-        match entries_of(alloc, &self.agg, generation, &tokens) {
+        match entries_of(alloc, self.chain.rows(), generation, &tokens) {
             Ok(entries) => Ok(entries),
             Err(AllocError) => Err(Status::Memory),
         }
@@ -129,7 +130,7 @@ impl Held {
         if !self.has_generation(generation) {
             return Err(Status::Later);
         }
-        Ok(numbers_of(self.agg.heap_lengths(generation)))
+        Ok(numbers_of(self.chain.rows().heap_lengths(generation)))
     }
 
     /// How many rows a table has after the first so many deltas.
@@ -140,6 +141,6 @@ impl Held {
         if !self.has_generation(generation) {
             return Err(Status::Later);
         }
-        Ok(self.agg.count_at(generation, table))
+        Ok(self.chain.rows().count_at(generation, table))
     }
 }

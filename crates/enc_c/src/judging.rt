@@ -10,20 +10,18 @@ use crate::open::{files_of, tell_fault};
 use crate::refusal::RefusalNumbers;
 use crate::status::Status;
 use enc_base::ReadFault;
-use enc_checker::{Files, check};
+use enc_checker::Files;
 use std::alloc::Global;
 
 impl Held {
-    /// Judges the files of a delta after those before it, and adds nothing. `Refused` names the first
-    /// rule that they break.
+    /// Judges the files of a delta after those before it, and adds nothing. `Refused` names the first rule that they
+    /// break.
     #[tactic(auto, unfolding(crate::specs::State::applied_state))]
     pub fn judge(&self, alloc: Global, files: Files) -> Result<(), ReadFault>
         ensures { JudgesAs result (applied_state self.now files.meta.items files.il.items (bytes_held files.pdb)) }
     {
-        match check(alloc, &self.agg, files) {
-            Ok(_) => Ok(()),
-            Err(fault) => Err(fault),
-        }
+        self.chain.check(alloc, files)?;
+        Ok(())
     }
 }
 
@@ -38,8 +36,7 @@ fn judge(alloc: Global, held: &Held, files: Files, refusal: &mut RefusalNumbers)
     }
 }
 
-/// Judges a delta after those before it, with its PDB, where that has bytes, as `enc_apply` does, and
-/// adds nothing.
+/// Judges a delta after those before it, with its PDB, where that has bytes, as `enc_apply` does, and adds nothing.
 #[unsafe(no_mangle)]
 pub extern "C" fn enc_check(
     alloc: Global,

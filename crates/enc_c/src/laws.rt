@@ -12,8 +12,7 @@ pub fn words_law()
     ensures { WordsStandInLines }
 {}
 
-/// The points and the documents that are told of a method are those of the plain PDB after all
-/// deltas.
+/// The points and the documents that are told of a method are those of the plain PDB after all deltas.
 pub fn points_law()
     ensures { PointsAreThePdbs }
 {}

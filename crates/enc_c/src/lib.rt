@@ -1,7 +1,7 @@
 //! The toolkit as a C library: modules behind handles, and what is asked of them.
 #![tactic(auto)]
 
-mod asked;
+mod body_calls;
 mod calls;
 mod cells;
 mod clauses;
@@ -14,6 +14,7 @@ mod earlier;
 mod earlier_calls;
 mod family;
 mod fill;
+mod generation_calls;
 mod handle;
 mod held;
 mod history;
@@ -21,9 +22,9 @@ mod judging;
 mod kinds;
 mod laws;
 mod loose;
-mod more_calls;
-mod more_copies;
+mod name_calls;
 mod names;
+mod newest_module;
 mod open;
 mod points;
 mod reason;
@@ -36,5 +37,6 @@ mod session_numbers;
 mod session_open;
 mod session_taken;
 mod status;
+mod version;
 
 pub use laws::{numbers_law, points_law, words_law};

@@ -15,15 +15,16 @@ use enc_rewriter::{RewriteFault, Rewritten, rewrite};
 use std::alloc::Global;
 
 impl Held {
-    /// The module and its PDB after all deltas, written from scratch. `TooLarge` and `Image` name the
-    /// first limit that they pass.
+    /// The module and its PDB after all deltas, written from scratch. `TooLarge` and `Image` name the first limit that
+    /// they pass.
     pub fn save(&self, alloc: Global) -> Result<Rewritten, RewriteFault>
         ensures written { IfOk result (λ r. RewritesTo (module_after self.now) (pdb_after self.now) r.image r.pdb) }
         ensures tells { TellsLimit result (rewrite_limit (module_after self.now) (pdb_after self.now)) }
     {
-        self.agg.sound();
-        self.debug.sound();
-        rewrite(alloc, &self.agg, &self.debug)
+        self.chain.holds();
+        self.chain.rows().sound();
+        self.chain.points().sound();
+        rewrite(alloc, self.chain.rows(), self.chain.points())
     }
 }
 

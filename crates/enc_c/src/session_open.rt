@@ -5,12 +5,12 @@ ghost use Rattle.enc_c.specs.SessionCalls.{OpensSession, session_over};
 ghost use Rattle.enc_c.specs.State.{begun_state, given_bytes, opened_state, state_with_pdb};
 ghost use Rattle.enc_c.specs.Status.{number_of_status};
 
-use crate::held::read_pdb;
 use crate::open::{given, tell_fault};
 use crate::refusal::RefusalNumbers;
 use crate::session_handle::{SessionHandle, put_session, take_session};
 use crate::status::Status;
 use enc_base::ReadFault;
+use enc_chain::read_pdb;
 use enc_image::Image;
 use enc_ppdb::Pdb;
 use enc_session::Recording;

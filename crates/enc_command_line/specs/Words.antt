@@ -16,10 +16,9 @@ pub record Numeral : Type 0 where
   pub value : ℕ
 
 -- what a command asks for: a row of a base with deltas, their listing, whether all are accepted, the one module that
--- has all edits,
--- under a name of its own, the same in the order of an ordinary module, one delta that stands for the last two, the
--- delta of an edit list, in
--- a file, that follows them, what a script prints over a base, or a generated case by its two numbers
+-- has all edits, under a name of its own, the same in the order of an ordinary module, one delta that stands for the
+-- last two, the delta of an edit list, in a file, that follows them, what a script prints over a base, or a generated
+-- case by its two numbers
 pub data Job : Type 0 where
   show : List ℕ → Token → List (List ℕ) → Job
   list : List ℕ → List (List ℕ) → Job

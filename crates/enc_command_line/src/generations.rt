@@ -220,8 +220,8 @@ fn push_all(alloc: Global, agg: &Aggregate, out: &mut Vec<u8>) -> Result<(), All
     Ok(())
 }
 
-/// Appends the listing of an aggregate: a line for each generation, and under a delta's one for each
-/// token of its EncMap. Where memory runs out, nothing is appended.
+/// Appends the listing of an aggregate: a line for each generation, and under a delta's one for each token of its
+/// EncMap. Where memory runs out, nothing is appended.
 pub fn listing(alloc: Global, agg: &Aggregate, out: &mut Vec<u8>) -> Result<(), AllocError>
     ensures text { OnOk result (out.new.items ≡ out.old.items ++ listing_of agg.now.base agg.now.deltas) }
     ensures memory { OnErr result (out.new.items ≡ out.old.items) }

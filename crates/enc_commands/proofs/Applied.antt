@@ -11,7 +11,7 @@ use Rattle.enc_commands.specs.Verdict.{◌>>=◌, dll, pdb, Followed, plain_of, 
 use Rattle.enc_commands.specs.Verdict.{can_be_written}
 use Rattle.enc_commands.specs.declared.plan.Plan.{Plan}
 use Rattle.enc_commands.specs.declared.plan.Outcome.TheVariants.{Accepted}
-use Rattle.enc_commands.specs.declared.stop.Stop.{Stop as Halt}
+use Rattle.enc_commands.specs.declared.halt.Halt.{Halt}
 
 -- what is written, by the limit that is passed
 write_by : (out : List ℕ) (f : Followed) (o : Option Passed) → rewrite_limit (plain_of f) (debug_after f) ≡ o → rewrite_on out f ≡ (unless_past out f o >>= λ (g : Followed). Ok (applies out g))

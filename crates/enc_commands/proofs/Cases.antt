@@ -17,19 +17,19 @@ use Rattle.enc_rewriter.specs.Rewritten.{MeansModule, RewritesTo}
 use Rattle.enc_edit_list.specs.declared.edit.EditList.{EditList}
 use Rattle.enc_emit.specs.declared.delta_bytes.DeltaBytes.{DeltaBytes}
 use Rattle.enc_writer.specs.Stands.{StandsFor, IsWrittenFor}
-use Rattle.enc_jobs.specs.Generated.{generated_base, turns_from, state_after, methods_added, lists_from, generated_lists}
-use Rattle.enc_jobs.specs.Laws.{IsDrawnChain, BaseIsLittle, GeneratedStaysLittle, GeneratedTellsNothing}
+use Rattle.enc_generator.specs.Generated.{generated_base, turns_from, state_after, methods_added, lists_from, generated_lists}
+use Rattle.enc_generator.specs.Laws.{IsDrawnChain, BaseIsLittle, GeneratedStaysLittle, GeneratedTellsNothing}
 use Rattle.enc_commands.specs.Verdict.{Stop, meta, pdb, DeltaFiles, BaseFiles, Followed, followed_by, in_delta, judge_deltas, base_pdb, judge_all, debug_after}
 use Rattle.enc_commands.specs.Generating.{no_points, delta_name, module_saves, delta_saves, StandInTurn}
 use Rattle.enc_commands.specs.Series.{AreDrawn, IsSeries}
 use Rattle.enc_commands.specs.Stops.{OnPlan, StopsWith}
-use Rattle.enc_commands.specs.Loads.{followed, KnowWithin}
+use Rattle.enc_commands.specs.Loads.{followed}
 use Rattle.enc_commands.specs.Plans.{saves_of}
 use Rattle.enc_commands.specs.declared.commands.generate.Series.{Series}
 use Rattle.enc_commands.specs.declared.plan.Plan.{Plan}
 use Rattle.enc_saves.specs.declared.save.Save.{Save}
-use Rattle.enc_commands.specs.declared.stop.Stop.{Stop as Halt}
-use Rattle.enc_commands.specs.declared.stop.Stop.TheVariants as halt
+use Rattle.enc_commands.specs.declared.halt.Halt.{Halt}
+use Rattle.enc_commands.specs.declared.halt.Halt.TheVariants as halt
 use Rattle.enc_commands.proofs.Drawn.{base_drawn, base_silent, drawn_more, nothing_more}
 
 -- where something comes of it, nothing stops it
@@ -63,8 +63,8 @@ pub base_judged_as : (m : Module) (p : PlainPdb) (name image symbols : List ℕ)
 base_judged_as m p name image symbols b d f fs is none = rw (is, none) (base_judged m p name image symbols b d)
 
 pub series_begins : (out image symbols : List ℕ) (s : Series) (w : RewritesTo generated_base no_points image symbols) → BaseIsLittle
-    → followed s.held ≡ base_begun generated_base no_points image symbols w.image_is w.pdb_is.means → saves_of s.saves.items ≡ module_saves out image symbols → KnowWithin s.held → IsSeries out [] s
-series_begins out image symbols s w little is saved within = record {
+    → followed s.held ≡ base_begun generated_base no_points image symbols w.image_is w.pdb_is.means → saves_of s.saves.items ≡ module_saves out image symbols → IsSeries out [] s
+series_begins out image symbols s w little is saved = record {
   image = image;
   symbols = symbols;
   deltas = [];
@@ -76,7 +76,6 @@ series_begins out image symbols s w little is saved within = record {
   stand = (refl, is);
   drawn = subst (λ (f : Followed). IsDrawnChain [] (chain_with f.base f.deltas)) (sym is) (base_drawn no_points image symbols w little);
   nothing = λ method. ap (λ (f : Followed). debug_after f method) is ∙ base_silent _ symbols w.pdb_is.means method;
-  within = within;
 }
 
 -- one list more, behind those that stand in turn
@@ -120,9 +119,9 @@ pub record IsNext (lists : List EditList) (k : ℕ) (l : EditList) (c : Chain) (
   pub stand : IsWrittenFor c l d
   pub is : judged c (delta_of d.meta d.il) (Some d.pdb) ≡ Ok a
 
-pub series_more : (out : List ℕ) (lists : List EditList) (k : ℕ) (old new : Series) (l : EditList) (d : DeltaBytes) (a : Accepted) → IsSeries out (take k lists) old → IsNext lists k l (chain_of_all old.held.agg) d a → GeneratedStaysLittle
-    → GeneratedTellsNothing → followed new.held ≡ followed_by (followed old.held) a → saves_of new.saves.items ≡ saves_of old.saves.items ++ delta_saves (delta_name out (k + 1)) d → KnowWithin new.held → IsSeries out (take (k + 1) lists) new
-series_more out lists k old new l d a so next little silent after saved within =
+pub series_more : (out : List ℕ) (lists : List EditList) (k : ℕ) (old new : Series) (l : EditList) (d : DeltaBytes) (a : Accepted) → IsSeries out (take k lists) old → IsNext lists k l (chain_of_all old.held.rows) d a → GeneratedStaysLittle
+    → GeneratedTellsNothing → followed new.held ≡ followed_by (followed old.held) a → saves_of new.saves.items ≡ saves_of old.saves.items ++ delta_saves (delta_name out (k + 1)) d → IsSeries out (take (k + 1) lists) new
+series_more out lists k old new l d a so next little silent after saved =
     let stand = next.stand in
     let taken = taken_many lists k l next.there in
     let many : 1 + length (take k lists) ≡ k + 1 = omega (arith, taken) in
@@ -139,9 +138,8 @@ series_more out lists k old new l d a so next little silent after saved within =
       begins = so.begins;
       stand = rw (after, ← many) (stand_more out 1 (so.begun) (take k lists) l (so.deltas) (followed old.held) d a (so.stand) stand.stands next.is);
       drawn = chain_more (take k lists ++ l ∷ []) (followed old.held) (followed new.held) (stand.stands.source) (Some (stand.stands.symbols)) now
-          (drawn_more lists k l (chain_of_all old.held.agg) d stand next.drawn little next.there taken (so.drawn));
+          (drawn_more lists k l (chain_of_all old.held.rows) d stand next.drawn little next.there taken (so.drawn));
       nothing = λ method. ap (λ (f : Followed). debug_after f method) now ∙ nothing_more lists k l (followed old.held) d stand next.drawn silent next.there (so.nothing) method;
-      within = within;
     })
 
 -- saves behind none

@@ -17,6 +17,7 @@ use Rattle.enc_plain.specs.Module.{Module}
 use Rattle.enc_plain.specs.SoundDebug.{KnowsWithin}
 use Rattle.enc_image.specs.Base.{base_of, chain_of_base}
 use Rattle.enc_agg.specs.Extend.{chain_with, extended}
+use Rattle.enc_agg.specs.Seen.{History, chain_of_all}
 use Rattle.enc_ppdb.specs.PdbChain.{DebugDelta, points_at, debug_at, pdb_begun, pdb_with}
 use Rattle.enc_ppdb.specs.Written.{MeansPdb}
 use Rattle.enc_checker.specs.Check.{accepted}
@@ -33,8 +34,8 @@ use Rattle.enc_emit.specs.declared.delta_bytes.DeltaBytes.{DeltaBytes}
 use Rattle.enc_writer.specs.declared.fault.EditFault.{EditFault}
 use Rattle.enc_writer.specs.declared.fault.EditFault.TheVariants.{Broken}
 use Rattle.enc_writer.specs.Stands.{IsWrittenFor, WritesEdits}
-use Rattle.enc_jobs.specs.Generated.{generated_base, generated_lists, edited_by}
-use Rattle.enc_jobs.specs.Laws.{AreLittle, IsDrawnChain, GeneratedFits, GeneratedLie, GeneratedTellsNothing, BaseIsLittle, GeneratedObeys, GeneratedStaysLittle, GeneratedIsLight}
+use Rattle.enc_generator.specs.Generated.{generated_base, generated_lists, edited_by}
+use Rattle.enc_generator.specs.Laws.{AreLittle, IsDrawnChain, GeneratedFits, GeneratedLie, GeneratedTellsNothing, BaseIsLittle, GeneratedObeys, GeneratedStaysLittle, GeneratedIsLight}
 use Rattle.enc_commands.specs.Verdict.{Followed, followed_by, plain_of, debug_after}
 use Rattle.enc_commands.specs.Generating.{no_points}
 use Rattle.enc_commands.specs.Series.{AreDrawn, IsSeries}
@@ -108,6 +109,12 @@ drawn_obeys lists k l c fault rule edit d law there drawn is told =
     let none : first_edit c l ≡ None = law d.start d.count k l c d.few (at_place lists k l d there) (before_it lists k c d drawn) in
     let broken : first_edit c l ≡ Some (rule, edit) = subst (λ (f : EditFault). WritesEdits c l (Err f)) is told in
     cc
+
+-- so it is of the rows that are asked of a chain
+pub drawn_obeys_of : (lists : List EditList) (k : ℕ) (l : EditList) (held found : History) (fault : EditFault) (rule edit : ℕ) → found ≡ held → AreDrawn lists → GeneratedObeys
+    → slice_get lists k ≡ Some l → IsDrawnChain (take k lists) (chain_of_all held) → fault ≡ Broken rule edit → WritesEdits (chain_of_all found) l (Err fault) → ⊥
+drawn_obeys_of lists k l held found fault rule edit same d law there drawn is told =
+    drawn_obeys lists k l (chain_of_all held) fault rule edit d law there drawn is (subst (λ (h : History). WritesEdits (chain_of_all h) l (Err fault)) same told)
 
 -- one list more: its edits are made, its EncId is behind the others, and its heaps stay little
 heaps_little : (lists : List EditList) (k : ℕ) (l : EditList) (c : Chain) (s : Source) → AreDrawn lists → GeneratedStaysLittle → slice_get lists k ≡ Some l → IsDrawnChain (take k lists) c → s.heaps ≡ heaps_built (heaps_written c l) → AreLittle (k + 1) (joined_lengths (extended c s).heaps)

@@ -4,15 +4,15 @@ use Rattle.std.specs.Prelude.{◌⊎◌, IfSome}
 use Rattle.std.proofs.lemmas.List.{map-append}
 use Rattle.enc_outside.specs.Outside.{Files, HasCause}
 use Rattle.enc_commands.specs.declared.plan.Plan.{Plan}
-use Rattle.enc_commands.specs.declared.stop.Stop.{Stop as Halt}
-use Rattle.enc_commands.specs.declared.stop.Stop.TheVariants as halt
+use Rattle.enc_commands.specs.declared.halt.Halt.{Halt}
+use Rattle.enc_commands.specs.declared.halt.Halt.TheVariants as halt
 use Rattle.enc_delta.specs.Delta.{delta_of}
 use Rattle.enc_agg.specs.Extend.{chain_with}
 use Rattle.enc_agg.specs.Seen.{chain_of_all}
 use Rattle.enc_commands.specs.Verdict.{Stop, Done, ◌>>=◌, BaseFiles, DeltaFiles, Followed, base_size, files_size, load_one, load_base, load_delta, load_deltas, in_delta, judge_deltas, judge_all, accept, accept_text}
 use Rattle.enc_checker.specs.Check.{judged}
 use Rattle.enc_commands.specs.declared.load.DeltaFile.{DeltaFile}
-use Rattle.enc_commands.specs.declared.judge.Judged.{Judged}
+use Rattle.enc_chain.specs.Kept.{Kept}
 use Rattle.enc_commands.specs.Loads.{file_seen, followed, Adds}
 use Rattle.enc_commands.specs.Plans.{IsPlanOf}
 use Rattle.enc_commands.specs.Stops.{OnPlan, StopsWith}
@@ -96,7 +96,7 @@ unfolding accept_text
 text_judged files base edits deltas f text fs one two all = rw (one, two, all) refl
 
 -- a delta that was added, and those behind it
-pub judged_more : {U : Type 0} (old new : Judged) (f : DeltaFiles) (fs : List DeltaFiles) (u : U) → Adds old new (Ok u) (in_delta f (judged (chain_of_all old.agg) (delta_of f.metadata f.code) f.debug)) → judge_deltas (followed old) (f ∷ fs) ≡ judge_deltas (followed new) fs
+pub judged_more : {U : Type 0} (old new : Kept) (f : DeltaFiles) (fs : List DeltaFiles) (u : U) → Adds old new (Ok u) (in_delta f (judged (chain_of_all old.rows) (delta_of f.metadata f.code) f.debug)) → judge_deltas (followed old) (f ∷ fs) ≡ judge_deltas (followed new) fs
 unfolding judge_deltas
 judged_more old new f fs u added = rw (added.1, added.2) refl
 

@@ -9,13 +9,15 @@ use Rattle.enc_rows.specs.Source.{Source}
 use Rattle.enc_plain.specs.Chain.{Chain}
 use Rattle.enc_delta.specs.Delta.{delta_of}
 use Rattle.enc_agg.specs.Extend.{chain_with}
-use Rattle.enc_ppdb.specs.PdbChain.{DebugDelta}
-use Rattle.enc_checker.specs.Check.{Accepted, judged, new_bodies}
+use Rattle.enc_agg.specs.Seen.{History}
+use Rattle.enc_ppdb.specs.PdbChain.{DebugDelta, PdbHistory}
+use Rattle.enc_checker.specs.Check.{Accepted, judged}
 use Rattle.enc_base.specs.declared.refusal.StreamName.TheVariants as stream
 use Rattle.enc_reference_depth.specs.Depth.{first_deep}
 use Rattle.enc_merged_delta.specs.Merged.{after_both}
-use Rattle.enc_merge.specs.Merges.{AllGo, GoesWith, IsShortDelta, MergesBoth, StandsForBoth, weight_of_both}
-use Rattle.enc_merge.proofs.AcceptedGo.{accepted_delta, accepted_go, short_read}
+use Rattle.enc_merge.specs.Merges.{AllShort, IsShortDelta, MergesBoth, StandsForBoth, weight_of_both}
+use Rattle.enc_merge.proofs.ShortRead.{short_read}
+use Rattle.enc_chain.proofs.AcceptedGoes.{accepted_delta}
 use Rattle.enc_merge.specs.declared.fault.MergeFault.{MergeFault}
 use Rattle.enc_merge.specs.declared.fault.MergeFault.TheVariants.{TooLarge, Deep}
 use Rattle.enc_ppdb.specs.PdbChain.{pdb_with}
@@ -28,67 +30,61 @@ use Rattle.enc_commands.specs.Plans.{saves_of, IsPlanOf}
 use Rattle.enc_commands.specs.Stops.{Comes, OnPlan}
 use Rattle.enc_commands.specs.declared.plan.Outcome.TheVariants.{Accepted as Done}
 use Rattle.enc_commands.specs.declared.plan.Plan.{Plan}
-use Rattle.enc_commands.specs.declared.stop.Stop.{Stop as Halt}
+use Rattle.enc_commands.specs.declared.halt.Halt.{Halt}
 use Rattle.enc_commands.specs.Loads.{AreShort, HaveGone, IsShort, file_seen, followed}
-use Rattle.enc_commands.specs.declared.judge.Judged.{Judged}
+use Rattle.enc_chain.specs.Goes.{AllGo}
+use Rattle.enc_chain.specs.Kept.{Kept}
 use Rattle.enc_commands.specs.declared.load.DeltaFile.{DeltaFile}
 use Rattle.enc_commands.specs.Verdict.{◌>>=◌, Stop, DeltaFiles, Followed, BaseFiles, Verdict, base_pdb, can_be_merged, debug_after, deep_chain, dll, followed_by, il, in_delta, in_file, judge_all, judge_deltas, last_word, merged_on, merges, meta, past_limit, pdb, plain_of, weight_by, weight_of_last}
 
--- what an accepted delta's PDB says goes with it, and it isn't too long
-known_of : Accepted → DebugDelta
-known_of a = record { pdb = a.pdb; changed = new_bodies a.delta }
-
-GoesShort : Accepted → Type 0
-GoesShort a = GoesWith a.delta (known_of a) × IsShortDelta a.delta
-
-goes_judged : (c : Chain) (r : Result Source Refusal) (a : Accepted) (pdb : Option (List ℕ)) → ((d : Source) → r ≡ Ok d → IsShortDelta d) → judged c r pdb ≡ Ok a → GoesShort a
-unfolding GoesShort known_of
-goes_judged c (Ok d) a pdb short e = (accepted_go c (Ok d) pdb a e, subst IsShortDelta (sym (accepted_delta c d pdb a e)) (short d refl))
-goes_judged c (Err f) a pdb short e = absurd cc
+-- a delta that is accepted isn't too long, where it was read from short files
+short_judged : (c : Chain) (r : Result Source Refusal) (a : Accepted) (pdb : Option (List ℕ)) → ((d : Source) → r ≡ Ok d → IsShortDelta d) → judged c r pdb ≡ Ok a → IsShortDelta a.delta
+short_judged c (Ok d) a pdb short e = subst IsShortDelta (sym (accepted_delta c d pdb a e)) (short d refl)
+short_judged c (Err f) a pdb short e = absurd cc
 
 told_delta : (x : DeltaFiles) (r : Result Accepted Refusal) (a : Accepted) → in_delta x r ≡ Ok a → r ≡ Ok a
 told_delta x (Ok b) a e = let same : b ≡ a = cc in ap (λ (y : Accepted). Ok y) same
 told_delta x (Err f) a e = absurd cc
 
--- so all go, and there are as many as files
-goes_on : (f : Followed) (fs : List DeltaFiles) (g : Followed) → AllGo f.deltas f.debugs → AreShort fs → judge_deltas f fs ≡ Ok g
-    → AllGo g.deltas g.debugs × (length g.deltas ≡ length f.deltas + length fs)
-unfolding judge_deltas AreShort AllGo GoesShort known_of
-goes_on f [] g go short e = let same : f ≡ g = cc in subst (λ (x : Followed). AllGo x.deltas x.debugs × (length x.deltas ≡ length f.deltas + 0)) same (go, omega arith)
+-- so are all, and there are as many as files
+goes_on : (f : Followed) (fs : List DeltaFiles) (g : Followed) → AllShort f.deltas → AreShort fs → judge_deltas f fs ≡ Ok g
+    → AllShort g.deltas × (length g.deltas ≡ length f.deltas + length fs)
+unfolding judge_deltas AreShort AllShort
+goes_on f [] g go short e = let same : f ≡ g = cc in subst (λ (x : Followed). AllShort x.deltas × (length x.deltas ≡ length f.deltas + 0)) same (go, omega arith)
 goes_on f (x ∷ xs) g go short e = by (in_delta x (judged (chain_with f.base f.deltas) (delta_of x.metadata x.code) x.debug)) refl e (λ h more k. goes_on h xs g more short.1 k)
   where
     by : (r : Result Accepted Stop) → in_delta x (judged (chain_with f.base f.deltas) (delta_of x.metadata x.code) x.debug) ≡ r → (r >>= λ a. judge_deltas (followed_by f a) xs) ≡ Ok g
-        → ((h : Followed) → AllGo h.deltas h.debugs → judge_deltas h xs ≡ Ok g → AllGo g.deltas g.debugs × (length g.deltas ≡ length h.deltas + length xs))
-        → AllGo g.deltas g.debugs × (length g.deltas ≡ length f.deltas + suc (length xs))
+        → ((h : Followed) → AllShort h.deltas → judge_deltas h xs ≡ Ok g → AllShort g.deltas × (length g.deltas ≡ length h.deltas + length xs))
+        → AllShort g.deltas × (length g.deltas ≡ length f.deltas + suc (length xs))
     by (Err s) is k more = absurd cc
     by (Ok a) is k more =
-        let j = goes_judged (chain_with f.base f.deltas) (delta_of x.metadata x.code) a x.debug (λ d r. short_read x.metadata x.code d short.0.metadata short.0.code r) (told_delta x _ a is) in
-        let rest = more (followed_by f a) (j.0, (j.1, go)) k in
+        let j = short_judged (chain_with f.base f.deltas) (delta_of x.metadata x.code) a x.debug (λ d r. short_read x.metadata x.code d short.0.metadata short.0.code r) (told_delta x _ a is) in
+        let rest = more (followed_by f a) (j, go) k in
         let many = rest.1 in
         (rest.0, omega (arith, many))
 
-pub goes_all : (base : List ℕ) (f : BaseFiles) (fs : List DeltaFiles) (g : Followed) → AreShort fs → judge_all base f fs ≡ Ok g → AllGo g.deltas g.debugs × (length g.deltas ≡ length fs)
-unfolding judge_all AllGo
+pub goes_all : (base : List ℕ) (f : BaseFiles) (fs : List DeltaFiles) (g : Followed) → AreShort fs → judge_all base f fs ≡ Ok g → AllShort g.deltas × (length g.deltas ≡ length fs)
+unfolding judge_all AllShort
 goes_all base f fs g short e = first (in_file (dll base) _) e
   where
     start : Source → Option Source → Followed
     start b p = record { base = b; deltas = []; debug = p; debugs = [] }
 
-    second : (b : Source) (r : Result (Option Source) Stop) → (r >>= λ p. judge_deltas (start b p) fs) ≡ Ok g → AllGo g.deltas g.debugs × (length g.deltas ≡ length fs)
+    second : (b : Source) (r : Result (Option Source) Stop) → (r >>= λ p. judge_deltas (start b p) fs) ≡ Ok g → AllShort g.deltas × (length g.deltas ≡ length fs)
     second b (Err s) k = absurd cc
     second b (Ok p) k = let h = goes_on (start b p) fs g tt short k in let many = h.1 in (h.0, omega (arith, many))
 
     first : (r : Result Source Stop) → (r >>= λ b. in_file (pdb base) (base_pdb b f.debug) >>= λ p. judge_deltas (start b p) fs) ≡ Ok g
-        → AllGo g.deltas g.debugs × (length g.deltas ≡ length fs)
+        → AllShort g.deltas × (length g.deltas ≡ length fs)
     first (Err s) k = absurd cc
     first (Ok b) k = second b (in_file (pdb base) (base_pdb b f.debug)) k
 
 -- so all that were judged
-pub gone_so : (base : List ℕ) (f : BaseFiles) (files : List DeltaFile) (words : ℕ) (r : Result Judged Halt) → AreShort (map file_seen files) → length files ≡ words
-    → Comes followed r (judge_all base f (map file_seen files)) → IfOk r (λ (j : Judged). HaveGone words j)
+pub gone_so : (base : List ℕ) (f : BaseFiles) (files : List DeltaFile) (words : ℕ) (r : Result Kept Halt) → AreShort (map file_seen files) → length files ≡ words
+    → Comes followed r (judge_all base f (map file_seen files)) → IfOk r (λ (j : Kept). HaveGone words j)
 gone_so base f files words (Ok j) short many step =
     let h = goes_all base f (map file_seen files) (followed j) short step in
-    record { many = h.1 ∙ length-map files file_seen ∙ many; go = h.0 }
+    record { many = h.1 ∙ length-map files file_seen ∙ many; short = h.0 }
 gone_so base f files words (Err h) short many step = tt
 
 -- none so far
@@ -136,7 +132,7 @@ unfolding AllGo LastTwo
 last_two [] debugs f d e two go = absurd (omega (arith, two))
 last_two (b ∷ []) debugs f d e two go = absurd (omega (arith, two))
 last_two (b ∷ a ∷ older) [] f d e two go = absurd go
-last_two (b ∷ a ∷ older) (y ∷ []) f d e two go = absurd go.1.1
+last_two (b ∷ a ∷ older) (y ∷ []) f d e two go = absurd go.1
 last_two (b ∷ a ∷ older) (y ∷ x ∷ debugs) f d e two go = (b, (a, (older, (y, (x, (debugs, (d, e)))))))
 
 -- what comes of merging, by the weight of the PDB and the first reference that lies too deep
@@ -165,6 +161,13 @@ abbrev pub MergesOf : Followed → Result DeltaBytes MergeFault → Type 0
 MergesOf f r =
     (a b : Source) (older : List Source) (x y : DebugDelta) (debugs : List DebugDelta) → f.deltas ≡ b ∷ a ∷ older → f.debugs ≡ y ∷ x ∷ debugs
     → MergesBoth (chain_with f.base older) a b (pdb_with f.debug debugs) (pdb_with f.debug f.debugs) r
+
+-- of rows and points that are asked of a chain
+pub merges_of : (k : Kept) (found : History) (told : PdbHistory) (r : Result DeltaBytes MergeFault) → found ≡ k.rows → told ≡ k.points
+    → ((a b : Source) (older : List Source) (x y : DebugDelta) (debugs : List DebugDelta) → found.deltas ≡ b ∷ a ∷ older → told.deltas ≡ y ∷ x ∷ debugs
+    → MergesBoth (chain_with found.base older) a b (pdb_with told.base debugs) (pdb_with told.base told.deltas) r)
+    → MergesOf (followed k) r
+merges_of k found told r same alike both = rw (same, alike) at both
 
 pub plan_of_merged : (name out : List ℕ) (f : Followed) (plan : Plan) (d : DeltaBytes) → 2 ≤ length f.deltas → AllGo f.deltas f.debugs → MergesOf f (Ok d)
     → plan.outcome ≡ Done → plan.output.items ≡ saved_line (meta out ∷ il out ∷ pdb out ∷ []) → saves_of plan.saves.items ≡ (meta out, d.meta) ∷ (il out, d.il) ∷ (pdb out, d.pdb) ∷ []

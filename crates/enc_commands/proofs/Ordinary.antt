@@ -17,7 +17,7 @@ use Rattle.enc_commands.specs.Verdict.{◌>>=◌, dll, pdb, Followed, plain_of, 
 use Rattle.enc_commands.specs.Verdict.{can_be_compacted}
 use Rattle.enc_commands.specs.declared.plan.Plan.{Plan}
 use Rattle.enc_commands.specs.declared.plan.Outcome.TheVariants.{Accepted}
-use Rattle.enc_commands.specs.declared.stop.Stop.{Stop as Halt}
+use Rattle.enc_commands.specs.declared.halt.Halt.{Halt}
 
 -- what is written, by the limit that is passed
 abbrev limit_of : Followed → Option Passed

@@ -11,7 +11,7 @@ use Rattle.enc_commands.specs.Plans.{IsPlanOf}
 use Rattle.enc_commands.specs.Stops.{OnPlan, IfPlan, StopsWith}
 use Rattle.enc_commands.specs.Verdict.{BaseFiles, Followed, base_size, load_base, load_one, judge_base, list_in_file, load_named, run_on, runs}
 use Rattle.enc_commands.specs.declared.plan.Plan.{Plan}
-use Rattle.enc_commands.specs.declared.stop.Stop.{Stop as Halt}
+use Rattle.enc_commands.specs.declared.halt.Halt.{Halt}
 
 -- a fact of the plan of a halt
 pub if_gone : {A : Type 0} (o : Option A) (r : Result Plan Halt) (h : Halt) (P : A → Plan → Type 0) → r ≡ Err h → IfSome o (λ x. OnPlan h (P x)) → IfSome o (λ x. IfPlan r (P x))

@@ -14,7 +14,7 @@ use Rattle.enc_commands.specs.Stops.{OnPlan, StopsWith, IsUnlisted}
 use Rattle.enc_commands.specs.Verdict.{◌>>=◌, meta, il, pdb, Edited, no_list, broken_list, list_in_file, unless_list_broken, writes, Verdict, edits_on}
 use Rattle.enc_commands.specs.declared.plan.Plan.{Plan}
 use Rattle.enc_commands.specs.declared.plan.Outcome.TheVariants.{Accepted}
-use Rattle.enc_commands.specs.declared.stop.Stop.{Stop as Halt}
+use Rattle.enc_commands.specs.declared.halt.Halt.{Halt}
 
 -- what comes of a list, by the first rule that it breaks
 edits_by : (name out : List ℕ) (e : Edited) (o : Option (ℕ × ℕ)) → first_edit (chain_with e.followed.base e.followed.deltas) e.list ≡ o → edits_on name out e ≡ (unless_list_broken name e o >>= λ (f : Edited). Ok (writes out f))

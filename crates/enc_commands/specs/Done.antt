@@ -24,7 +24,7 @@ use Rattle.enc_commands.specs.declared.plan.Outcome.{Outcome}
 use Rattle.enc_commands.specs.declared.plan.Outcome.TheVariants.{Accepted, Refused, Usage, Missing}
 use Rattle.enc_command_line.specs.Lines.{limit_line, missing_line, absent_line, accepted_line, saved_line, moved_lines, unlisted_line, broken_line, deep_line, usage_line}
 use Rattle.enc_command_line.specs.Listing.{listing_of}
-use Rattle.enc_jobs.specs.Generated.{generated_base, generated_lists, edited_by}
+use Rattle.enc_generator.specs.Generated.{generated_base, generated_lists, edited_by}
 use Rattle.enc_command_line.specs.Case.{case_line}
 use Rattle.enc_commands.specs.Generating.{AreFilesOfCase}
 use Rattle.enc_commands.specs.Verdict.{Stop, no_command, absent_file, refused_file, past_limit, no_list, broken_list, deep_chain, dll, meta, il, pdb, Followed, plain_of, debug_after, Edited, Done, shows, lists, counts, applies, compacts, merges, writes, runs, generates, Verdict}
@@ -80,9 +80,8 @@ pub record AreFilesOfList (out : List ℕ) (e : Edited) (saves : List (List ℕ 
   pub saved : saves ≡ (meta out, files.meta) ∷ (il out, files.il) ∷ (pdb out, files.pdb) ∷ []
   pub stand : StandsFor (chain_with e.followed.base e.followed.deltas) e.list files
 
--- the files of one delta that stands for the last two of those that follow a base: it is accepted after the others,
--- and with it they make the same module and
--- plain PDB
+-- the files of one delta that stands for the last two of those that follow a base: it is accepted after the others, and
+-- with it they make the same module and plain PDB
 pub record AreFilesOfMerged (out : List ℕ) (f : Followed) (saves : List (List ℕ × List ℕ)) : Type 0 where
   pub files : DeltaBytes
   pub saved : saves ≡ (meta out, files.meta) ∷ (il out, files.il) ∷ (pdb out, files.pdb) ∷ []

@@ -12,7 +12,7 @@ use Rattle.enc_rewriter.specs.Rewritten.{MeansModule}
 use Rattle.enc_edit_list.specs.declared.edit.EditList.{EditList}
 use Rattle.enc_emit.specs.declared.delta_bytes.DeltaBytes.{DeltaBytes}
 use Rattle.enc_writer.specs.Stands.{StandsFor}
-use Rattle.enc_jobs.specs.Generated.{generated_base, edited_by}
+use Rattle.enc_generator.specs.Generated.{generated_base, edited_by}
 pub use Rattle.enc_saves.specs.Names.{delta_name, last_name}
 pub use Rattle.enc_saves.specs.Saves.{module_saves, delta_saves}
 use Rattle.enc_commands.specs.Verdict.{Followed, followed_by, base_pdb, plain_of, debug_after}

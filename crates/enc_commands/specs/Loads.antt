@@ -1,18 +1,15 @@
 -- For the contracts of private functions: what the loaded files stand for.
 use Rattle.std.specs.Prelude.{◌≡◌, ◌≤◌, ℕ, List, [], ◌∷◌, length, Option, option_map, Vec, Result, Ok, Err, string_bytes}
 use Rattle.std.specs.declared.alloc.Global.{Global}
-use Rattle.enc_commands.specs.declared.judge.Judged.{Judged}
 use Rattle.enc_commands.specs.declared.judge.JudgedBase.{JudgedBase}
 use Rattle.enc_commands.specs.declared.commands.accept.Texted.{Texted}
 use Rattle.enc_commands.specs.declared.load.BaseFile.{BaseFile}
 use Rattle.enc_commands.specs.declared.load.DeltaFile.{DeltaFile}
-use Rattle.enc_commands.specs.declared.stop.Stop.{Stop as Halt}
-use Rattle.enc_plain.specs.Sound.{row_count}
-use Rattle.enc_plain.specs.SoundDebug.{KnowsWithin}
-use Rattle.enc_base.specs.Tables as tables
-use Rattle.enc_merge.specs.Merges.{AllGo}
-use Rattle.enc_commands.specs.Verdict.{Stop, BaseFiles, DeltaFiles, Followed, file_limit, plain_of, debug_after, followed_by, WithText}
+use Rattle.enc_commands.specs.declared.halt.Halt.{Halt}
+use Rattle.enc_merge.specs.Merges.{AllShort}
+use Rattle.enc_commands.specs.Verdict.{Stop, BaseFiles, DeltaFiles, Followed, file_limit, followed_by, WithText}
 use Rattle.enc_checker.specs.Check.{Accepted}
+pub use Rattle.enc_chain.specs.Kept.{Kept, followed}
 use Rattle.enc_commands.specs.Stops.{OnPlan, StopsWith}
 
 -- the bytes of a file that may be absent
@@ -31,21 +28,13 @@ file_seen f = record {
   debug = bytes_seen f.debug;
 }
 
--- an aggregate and a chain of PDBs are a base with the deltas that follow it
-abbrev pub followed : Judged → Followed
-followed j = record { base = j.agg.base; deltas = j.agg.deltas; debug = j.debug.base; debugs = j.debug.deltas }
-
--- and so is a base alone
+-- a base alone
 abbrev pub base_followed : JudgedBase → Followed
 base_followed b = record { base = b.image; deltas = []; debug = b.pdb; debugs = [] }
 
 -- and so they are with a text
 abbrev pub texted : Texted → WithText
 texted t = record { followed = followed t.judged; text = t.text.items }
-
--- what their PDBs know is of their methods
-abbrev pub KnowWithin : Judged → Type 0
-KnowWithin j = KnowsWithin (debug_after (followed j)) (row_count (plain_of (followed j)) tables.method_def)
 
 -- the metadata and the code of a delta aren't longer than a file may be
 pub record IsShort (f : DeltaFiles) : Type 0 where
@@ -56,12 +45,12 @@ unfoldable pub AreShort : List DeltaFiles → Type 0
 AreShort [] = Unit {0}
 AreShort (f ∷ fs) = IsShort f × AreShort fs
 
--- the deltas of so many words follow, none of them longer, and what their PDBs say goes with them
-pub record HaveGone (words : ℕ) (j : Judged) : Type 0 where
-  pub many : length j.agg.deltas ≡ words
-  pub go : AllGo j.agg.deltas j.debug.deltas
+-- the deltas of so many words follow, none of them longer than a file
+pub record HaveGone (words : ℕ) (k : Kept) : Type 0 where
+  pub many : length k.rows.deltas ≡ words
+  pub short : AllShort k.rows.deltas
 
 -- a delta was added, or it ended at the defined stop
-abbrev pub Adds : {U : Type 0} → Judged → Judged → Result U Halt → Result Accepted Stop → Type 0
+abbrev pub Adds : {U : Type 0} → Kept → Kept → Result U Halt → Result Accepted Stop → Type 0
 Adds old new (Ok u) r = (a : Accepted) × (r ≡ Ok a) × (followed new ≡ followed_by (followed old) a)
 Adds old new (Err h) r = OnPlan h (StopsWith r)

@@ -1,5 +1,5 @@
 -- For the contracts of private functions: the files of a generated case as far as they are made.
-use Rattle.std.specs.Prelude.{◌≡◌, ◌≤◌, ℕ, List, ◌++◌, Some, Result, Ok, Err, slice_get}
+use Rattle.std.specs.Prelude.{◌≡◌, ◌≤◌, ◌<◌, ℕ, List, ◌++◌, length, take, Some, Result, Ok, Err, slice_get}
 use Rattle.enc_base.specs.declared.token.Token.{Token}
 use Rattle.enc_base.specs.Tables as tables
 use Rattle.enc_plain.specs.Sound.{row_count}
@@ -10,13 +10,13 @@ use Rattle.enc_edit_list.specs.declared.edit.EditList.{EditList}
 use Rattle.enc_agg.specs.Seen.{chain_of_all}
 use Rattle.enc_emit.specs.declared.delta_bytes.DeltaBytes.{DeltaBytes}
 use Rattle.enc_writer.specs.Stands.{IsWrittenFor}
-use Rattle.enc_jobs.specs.Generated.{generated_base, generated_lists}
-use Rattle.enc_jobs.specs.Laws.{IsDrawnChain}
+use Rattle.enc_generator.specs.Generated.{generated_base, generated_lists}
+use Rattle.enc_generator.specs.Laws.{IsDrawnChain}
 use Rattle.enc_commands.specs.declared.commands.generate.Series.{Series}
-use Rattle.enc_commands.specs.declared.stop.Stop.{Stop as Halt}
+use Rattle.enc_commands.specs.declared.halt.Halt.{Halt}
 use Rattle.enc_commands.specs.Verdict.{Followed, debug_after}
 use Rattle.enc_commands.specs.Generating.{no_points, module_saves, Begins, StandInTurn}
-use Rattle.enc_commands.specs.Loads.{followed, KnowWithin}
+use Rattle.enc_commands.specs.Loads.{followed}
 use Rattle.enc_commands.specs.Plans.{saves_of}
 use Rattle.enc_commands.specs.Stops.{OnPlan}
 
@@ -31,20 +31,26 @@ pub record IsSeries (out : List ℕ) (lists : List EditList) (s : Series) : Type
   pub base_debug : MeansPdb no_points (row_count generated_base tables.method_def) symbols
   pub begins : Begins image symbols begun
   pub stand : StandInTurn out 1 begun lists deltas (followed s.held)
-  pub drawn : IsDrawnChain lists (chain_of_all s.held.agg)
+  pub drawn : IsDrawnChain lists (chain_of_all s.held.rows)
   pub nothing : (method : Token) → debug_after (followed s.held) method ≡ unknown
-  pub within : KnowWithin s.held
 
 -- the lists are those of a case
 pub record AreDrawn (lists : List EditList) : Type 0 where
   pub start : ℕ
   pub count : ℕ
   pub few : count ≤ 64
+  pub short : length lists ≤ 64
   pub lists_are : lists ≡ generated_lists start count
+
+-- the lists before a place are made, and there is one at it
+pub record IsAt (out : List ℕ) (lists : List EditList) (k : ℕ) (s : Series) : Type 0 where
+  pub there : k < length lists
+  pub drawn : AreDrawn lists
+  pub series : IsSeries out (take k lists) s
 
 -- files are written for the list at a place, behind what was made
 abbrev pub StandAt : List EditList → ℕ → Series → DeltaBytes → Type 0
-StandAt lists k s d = (l : EditList) × (slice_get lists k ≡ Some l) × IsWrittenFor (chain_of_all s.held.agg) l d
+StandAt lists k s d = (l : EditList) × (slice_get lists k ≡ Some l) × IsWrittenFor (chain_of_all s.held.rows) l d
 
 -- nothing is said of a refusal: what ends it is want of memory
 abbrev pub NothingSaid : {A : Type 0} → Result A Halt → Type 0

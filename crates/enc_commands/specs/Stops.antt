@@ -7,8 +7,8 @@ use Rattle.enc_outside.specs.declared.store.LoadError.{LoadError}
 use Rattle.enc_outside.specs.declared.store.LoadError.TheVariants as load
 use Rattle.enc_commands.specs.declared.plan.Plan.{Plan}
 use Rattle.enc_commands.specs.declared.plan.Outcome.TheVariants.{Usage}
-use Rattle.enc_commands.specs.declared.stop.Stop.{Stop as Halt}
-use Rattle.enc_commands.specs.declared.stop.Stop.TheVariants as halt
+use Rattle.enc_commands.specs.declared.halt.Halt.{Halt}
+use Rattle.enc_commands.specs.declared.halt.Halt.TheVariants as halt
 use Rattle.enc_rewriter.specs.declared.fault.RewriteFault.{RewriteFault}
 use Rattle.enc_rewriter.specs.declared.fault.RewriteFault.TheVariants.{Memory, TooLarge, Image}
 use Rattle.enc_jobs.specs.declared.fault.JobFault.{JobFault}

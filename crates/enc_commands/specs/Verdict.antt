@@ -35,11 +35,9 @@ use Rattle.enc_command_line.specs.declared.limits.Limit.{Limit}
 use Rattle.enc_command_line.specs.declared.limits.Limit.TheVariants as limit
 use Rattle.enc_command_line.specs.Words.{Numeral, Job, show, list, check, apply, compact, merge, write, run, gen, job_of}
 
--- why a command does nothing: the words are none; a file that must be there is absent; a file is refused, by a rule
--- or by its length,
--- or as an edit list or a script: it isn't one, or one of its edits breaks a rule; or the last delta isn't merged
--- with the one before it, as a reference lies
--- too deep in others
+-- why a command does nothing: the words are none; a file that must be there is absent; a file is refused, by a rule or
+-- by its length, or as an edit list or a script: it isn't one, or one of its edits breaks a rule; or the last delta
+-- isn't merged with the one before it, as a reference lies too deep in others
 pub data Stop : Type 0 where
   no_command : Stop
   absent_file : List ℕ → Stop
@@ -261,10 +259,9 @@ accept_text files base edits deltas = do
   g ← judge_all base f fs
   Ok (record { followed = g; text = text })
 
--- what an accepted command does with them: it shows a token's row, lists them, counts the deltas, saves the one
--- module that has all
--- edits, as it is or in the order of an ordinary one, one delta that stands for the last two, or the delta of an
--- edit list; it runs a script over a base, with the watchers that are handed in and the deltas that the script
+-- what an accepted command does with them: it shows a token's row, lists them, counts the deltas, saves the one module
+-- that has all edits, as it is or in the order of an ordinary one, one delta that stands for the last two, or the delta
+-- of an edit list; it runs a script over a base, with the watchers that are handed in and the deltas that the script
 -- names; or it saves a generated case
 pub data Done : Type 0 where
   shows : Token → Followed → Done

@@ -18,9 +18,9 @@ mod run;
 mod show;
 mod write;
 
+use crate::halt::Halt;
 use crate::plan::{Outcome, Plan};
 use crate::plans::unknown;
-use crate::stop::Stop;
 use apply::apply;
 use check::check;
 use compact::compact;
@@ -41,15 +41,15 @@ pub fn plan_of<S: Store, W: Watcher>(
     words: &[String],
     store: &mut S,
     watchers: Vec<W>,
-) -> Result<Plan, Stop>
-    ensures cause { HasCause Stop.Failed (S.faults store.old) (S.faults store.new) result }
+) -> Result<Plan, Halt>
+    ensures cause { HasCause Halt.Failed (S.faults store.old) (S.faults store.new) result }
     ensures stays { S.told store.new ≡ S.told store.old }
     ensures plan { IfSome (S.told store.old) (λ files. IfPlan result (IsPlanOf
-        (verdict_of (map (λ w. record { kind = W.kind_of w; limit = W.limit w; heard = W.heard w }) watchers.items)
+        (verdict_of (map W.watching watchers.items)
         (texts words.now) files))) }
     ensures usage { job_of (texts words.now) ≡ None → IfPlan result (IsPlanOf (Err no_command)) }
     ensures words { IfPlan result (λ plan. plan.outcome ≡ Outcome.Usage → job_of (texts words.now) ≡ None) }
-    ensures asked { IsErrOf result Stop.Failed → IsSome (job_of (texts words.now)) }
+    ensures asked { IsErrOf result Halt.Failed → IsSome (job_of (texts words.now)) }
     ensures kept { IfPlan result (λ plan. (plan.outcome ≡ Outcome.Accepted) ⊎ (plan.saves.items ≡ [])) }
 {
     match command_of(words) {

@@ -4,13 +4,13 @@
 mod commands;
 mod ending;
 mod finish;
+mod halt;
 mod judge;
 mod laws;
 mod load;
 mod plan;
 mod plans;
 mod run;
-mod stop;
 
 pub use enc_command_line::listing;
 pub use enc_plain::RowPlace;

@@ -1,5 +1,4 @@
-//! Loading the files of a base and its deltas: all are there, and none is too long, before one is
-//! judged.
+//! Loading the files of a base and its deltas: all are there, and none is too long, before one is judged.
 ghost use Rattle.std.specs.Prelude.{◌≡◌, ◌≤◌, ◌+◌, ◌++◌, ℕ, List, length, map, option_map, Some, IfSome, IfOk, IsErrOf, string_bytes, codes};
 ghost use Rattle.std.specs.FinMap.{get};
 ghost use Rattle.enc_outside.specs.Outside.{HasCause};
@@ -8,8 +7,8 @@ ghost use Rattle.enc_commands.specs.Verdict.{dll, meta, il, pdb, file_limit, kep
 ghost use Rattle.enc_commands.specs.Stops.{Comes, StopsQuietly};
 ghost use Rattle.enc_commands.specs.Loads.{bytes_seen, base_seen, file_seen, AreShort, IsShort};
 
+use crate::halt::Halt;
 use crate::plans::{missing, too_long};
-use crate::stop::Stop;
 use enc_command_line::{FILE_LIMIT, Limit, TOTAL_LIMIT};
 use enc_outside::Store;
 use enc_saves::name_of;
@@ -59,10 +58,10 @@ impl Loaded {
 
     /// The file isn't too long, with what was loaded before it.
     #[tactic(auto, unfolding(crate::specs::Verdict::kept_whole))]
-    fn keep(&mut self, alloc: Global, name: &str, bytes: Vec<u8>) -> Result<Vec<u8>, Stop>
+    fn keep(&mut self, alloc: Global, name: &str, bytes: Vec<u8>) -> Result<Vec<u8>, Halt>
         ensures step { Comes (λ b. b.items) result (kept_whole name.now self.old bytes.items) }
         ensures quiet { StopsQuietly result }
-        ensures no_fault { ¬ (IsErrOf result Stop.Failed) }
+        ensures no_fault { ¬ (IsErrOf result Halt.Failed) }
         ensures counted { IfOk result (λ b. self.new ≡ self.old + length b.items) }
         ensures short { IfOk result (λ b. length b.items ≤ file_limit) }
     {
@@ -77,10 +76,10 @@ impl Loaded {
     }
 
     /// What the store had of a file that must be there. One that may be absent has `keep` alone.
-    fn take(&mut self, alloc: Global, name: &str, bytes: Option<Vec<u8>>) -> Result<Vec<u8>, Stop>
+    fn take(&mut self, alloc: Global, name: &str, bytes: Option<Vec<u8>>) -> Result<Vec<u8>, Halt>
         ensures step { Comes (λ b. b.items) result (taken_from name.now self.old (option_map (λ b. b.items) bytes)) }
         ensures quiet { StopsQuietly result }
-        ensures no_fault { ¬ (IsErrOf result Stop.Failed) }
+        ensures no_fault { ¬ (IsErrOf result Halt.Failed) }
         ensures counted { IfOk result (λ b. self.new ≡ self.old + length b.items) }
         ensures short { IfOk result (λ b. length b.items ≤ file_limit) }
     {
@@ -97,8 +96,8 @@ impl Loaded {
         alloc: Global,
         name: &str,
         store: &mut S,
-    ) -> Result<Vec<u8>, Stop>
-        ensures cause { HasCause Stop.Failed (S.faults store.old) (S.faults store.new) result }
+    ) -> Result<Vec<u8>, Halt>
+        ensures cause { HasCause Halt.Failed (S.faults store.old) (S.faults store.new) result }
         ensures stays { S.told store.new ≡ S.told store.old }
         ensures step { IfSome (S.told store.old)
             (λ files. Comes (λ b. b.items) result (one_of files name.now self.old)) }
@@ -117,10 +116,10 @@ impl Loaded {
         alloc: Global,
         name: &str,
         bytes: Option<Vec<u8>>,
-    ) -> Result<Option<Vec<u8>>, Stop>
+    ) -> Result<Option<Vec<u8>>, Halt>
         ensures step { Comes bytes_seen result (kept_if_there name.now self.old (bytes_seen bytes)) }
         ensures quiet { StopsQuietly result }
-        ensures no_fault { ¬ (IsErrOf result Stop.Failed) }
+        ensures no_fault { ¬ (IsErrOf result Halt.Failed) }
         ensures counted { IfOk result (λ b. self.new ≡ self.old + optional_size (bytes_seen b)) }
     {
         match bytes {
@@ -139,8 +138,8 @@ impl Loaded {
         alloc: Global,
         name: &str,
         store: &mut S,
-    ) -> Result<Option<Vec<u8>>, Stop>
-        ensures cause { HasCause Stop.Failed (S.faults store.old) (S.faults store.new) result }
+    ) -> Result<Option<Vec<u8>>, Halt>
+        ensures cause { HasCause Halt.Failed (S.faults store.old) (S.faults store.new) result }
         ensures stays { S.told store.new ≡ S.told store.old }
         ensures step { IfSome (S.told store.old)
             (λ files. Comes bytes_seen result (optional_of files name.now self.old)) }
@@ -159,8 +158,8 @@ pub fn load_base<S: Store>(
     base: &str,
     loaded: &mut Loaded,
     store: &mut S,
-) -> Result<BaseFile, Stop>
-    ensures cause { HasCause Stop.Failed (S.faults store.old) (S.faults store.new) result }
+) -> Result<BaseFile, Halt>
+    ensures cause { HasCause Halt.Failed (S.faults store.old) (S.faults store.new) result }
     ensures stays { S.told store.new ≡ S.told store.old }
     ensures step { IfSome (S.told store.old) (λ files. Comes base_seen result (base_from files base.now loaded.old)) }
     ensures quiet { StopsQuietly result }
@@ -204,8 +203,8 @@ fn load_delta<S: Store>(
     delta: &str,
     loaded: &mut Loaded,
     store: &mut S,
-) -> Result<DeltaFile, Stop>
-    ensures cause { HasCause Stop.Failed (S.faults store.old) (S.faults store.new) result }
+) -> Result<DeltaFile, Halt>
+    ensures cause { HasCause Halt.Failed (S.faults store.old) (S.faults store.new) result }
     ensures stays { S.told store.new ≡ S.told store.old }
     ensures step { IfSome (S.told store.old) (λ files. Comes file_seen result (delta_from files delta.now loaded.old)) }
     ensures quiet { StopsQuietly result }
@@ -235,8 +234,8 @@ pub fn load_deltas<S: Store>(
     deltas: &[String],
     loaded: &mut Loaded,
     store: &mut S,
-) -> Result<Vec<DeltaFile>, Stop>
-    ensures cause { HasCause Stop.Failed (S.faults store.old) (S.faults store.new) result }
+) -> Result<Vec<DeltaFile>, Halt>
+    ensures cause { HasCause Halt.Failed (S.faults store.old) (S.faults store.new) result }
     ensures stays { S.told store.new ≡ S.told store.old }
     ensures step { IfSome (S.told store.old)
         (λ files. Comes (λ fs. map file_seen fs.items) result (deltas_from files (texts deltas.now) loaded.old)) }

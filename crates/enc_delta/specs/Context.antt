@@ -7,7 +7,7 @@ use Rattle.enc_rows.specs.Source.{Source}
 use Rattle.enc_plain.specs.Chain.{Chain}
 use Rattle.enc_plain.specs.Reading.{within}
 use Rattle.enc_plain.specs.Rows.{Rows}
-use Rattle.enc_delta.specs.declared.known.Known.{Known}
+use Rattle.enc_delta.specs.declared.known.DeltaLists.{DeltaLists}
 use Rattle.enc_delta.specs.Delta.{log_in, listed}
 use Rattle.enc_delta.specs.Lists.{AreTokens, AreEntries}
 use Rattle.enc_delta.specs.Members.{ArePairs, pair_seen}
@@ -33,7 +33,7 @@ abbrev pub row_or_nil : Joined → Option Token → Token
 row_or_nil j o = unwrap_or (option_and_then (within (rows_with j.chain (listed j.delta))) o) nil
 
 -- what is known is that of this chain and this delta
-pub record IsKnown (c : Chain) (s : Source) (k : Known) : Type 0 where
+pub record IsKnown (c : Chain) (s : Source) (k : DeltaLists) : Type 0 where
   pub before : k.before ≡ joined_lengths c.heaps
   pub tokens : k.tokens.items ≡ listed s
   pub token_rows : AreTokens k.tokens.items

@@ -5,11 +5,11 @@ use Rattle.enc_base.specs.declared.refusal.Refusal.{Refusal}
 use Rattle.enc_rows.specs.Source.{Source}
 use Rattle.enc_plain.specs.Chain.{Chain}
 use Rattle.enc_delta.specs.Judged.{rules, first_of}
-use Rattle.enc_delta.specs.declared.rules.Stop.{Stop}
-use Rattle.enc_delta.specs.declared.rules.Stop.TheVariants.{Memory, Broken}
+use Rattle.enc_delta.specs.declared.rules.RuleFault.{RuleFault}
+use Rattle.enc_delta.specs.declared.rules.RuleFault.TheVariants.{Memory, Broken}
 
 -- no rule is broken, or the first broken one is told; want of memory tells nothing
-abbrev pub TellsFirst : Result (Unit {0}) Stop → Option Refusal → Type 0
+abbrev pub TellsFirst : Result (Unit {0}) RuleFault → Option Refusal → Type 0
 TellsFirst (Ok u) first = first ≡ None
 TellsFirst (Err (Broken refusal)) first = first ≡ Some refusal
 TellsFirst (Err Memory) first = Unit {0}

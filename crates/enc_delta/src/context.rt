@@ -20,7 +20,7 @@ ghost use Rattle.enc_plain.specs.Rows.{bytes_at, AreStoredAt};
 
 use crate::delta::Delta;
 use crate::joined::entry_after;
-use crate::known::Known;
+use crate::known::DeltaLists;
 use crate::log_entry::LogEntry;
 use crate::pairs::Pair;
 use crate::place::{has_number, number_of};
@@ -39,7 +39,7 @@ use std::marker::Model;
 pub struct Context<'a, C: ChainView> {
     pub old: Viewed<'a, C>,
     pub delta: &'a Delta,
-    pub known: &'a Known,
+    pub known: &'a DeltaLists,
 }
 
 impl<'a, C: ChainView> Model for Context<'a, C> {

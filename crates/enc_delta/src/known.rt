@@ -16,7 +16,7 @@ use std::alloc::{AllocError, Global};
 /// tokens of its EncMap, the entries of its EncLog, the children of its Add entries, how many new
 /// rows go into each table, and how many rows each has afterwards.
 #[derive(Drop)]
-pub struct Known {
+pub struct DeltaLists {
     pub before: HeapLengths,
     pub tokens: Vec<Token>,
     pub log: Vec<LogEntry>,
@@ -66,7 +66,11 @@ pub fn counts_of<C: ChainView>(chain: &C, tokens: &[Token], added: &[usize; 256]
 
 /// What is known of a delta after its chain. It takes memory for the tokens, the entries and the
 /// children.
-pub fn known_of<C: ChainView>(alloc: Global, chain: &C, delta: &Delta) -> Result<Known, AllocError>
+pub fn known_of<C: ChainView>(
+    alloc: Global,
+    chain: &C,
+    delta: &Delta,
+) -> Result<DeltaLists, AllocError>
     ensures { IfOk result (IsKnown (C.chain chain.now) delta.now) }
 {
     let tokens = delta.tokens(alloc)?;
@@ -74,7 +78,7 @@ pub fn known_of<C: ChainView>(alloc: Global, chain: &C, delta: &Delta) -> Result
     let pairs = attached_of(alloc, delta, &log)?;
     let inserts = inserts_of(chain, &tokens);
     let counts = counts_of(chain, &tokens, &inserts);
-    Ok(Known {
+    Ok(DeltaLists {
         before: chain.lengths(),
         tokens,
         log,

@@ -22,28 +22,28 @@ use std::alloc::{AllocError, Global};
 
 /// Why the rules behind aren't asked: there is no memory, or a rule is broken.
 #[derive(Clone, Copy, Debug, PartialEq, Eq)]
-enum Stop {
+enum RuleFault {
     Memory,
     Broken(Refusal),
 }
 
-impl From<AllocError> for Stop {
-    ghost use Rattle.enc_delta.specs.declared.rules.Stop.TheVariants.{Memory};
+impl From<AllocError> for RuleFault {
+    ghost use Rattle.enc_delta.specs.declared.rules.RuleFault.TheVariants.{Memory};
     ghost use Rattle.std.specs.Prelude.{◌≡◌};
 
     ghost from_gives = { λ _ stop. stop ≡ Memory };
 
-    fn from(_: AllocError) -> Stop {
-        Stop::Memory
+    fn from(_: AllocError) -> RuleFault {
+        RuleFault::Memory
     }
 }
 
 /// What a rule of this number says: it is broken at a place, or it isn't.
-fn rule(n: u8, place: Option<Place>) -> Result<(), Stop>
+fn rule(n: u8, place: Option<Place>) -> Result<(), RuleFault>
     ensures { TellsFirst result (refused n place) }
 {
     match place {
-        Some(place) => Err(Stop::Broken(Refusal {
+        Some(place) => Err(RuleFault::Broken(Refusal {
             code: Code::E(n),
             place,
         })),
@@ -53,7 +53,7 @@ fn rule(n: u8, place: Option<Place>) -> Result<(), Stop>
 
 /// Asks the rules of the Module row and of the heaps.
 #[tactic(auto, unfolding(crate::specs::Stops::first_identity))]
-fn ask_identity<C: ChainView>(context: &Context<'_, C>) -> Result<(), Stop>
+fn ask_identity<C: ChainView>(context: &Context<'_, C>) -> Result<(), RuleFault>
     ensures { TellsFirst result (first_identity context.now.chain context.now.delta) }
 {
     rule(1, other_module(context))?;
@@ -65,7 +65,7 @@ fn ask_identity<C: ChainView>(context: &Context<'_, C>) -> Result<(), Stop>
 
 /// Asks the rules of EncMap and EncLog.
 #[tactic(auto, unfolding(crate::specs::Stops::first_lists))]
-fn ask_lists<C: ChainView>(alloc: Global, context: &Context<'_, C>) -> Result<(), Stop>
+fn ask_lists<C: ChainView>(alloc: Global, context: &Context<'_, C>) -> Result<(), RuleFault>
     ensures { TellsFirst result (first_lists context.now.chain context.now.delta) }
 {
     rule(6, late_token(context))?;
@@ -78,7 +78,7 @@ fn ask_lists<C: ChainView>(alloc: Global, context: &Context<'_, C>) -> Result<()
 
 /// Asks the rules of the cells of rows.
 #[tactic(auto, unfolding(crate::specs::Stops::first_cells))]
-fn ask_cells<C: ChainView>(alloc: Global, context: &Context<'_, C>) -> Result<(), Stop>
+fn ask_cells<C: ChainView>(alloc: Global, context: &Context<'_, C>) -> Result<(), RuleFault>
     ensures { TellsFirst result (first_cells context.now.chain context.now.delta) }
 {
     rule(12, closed_table(context))?;
@@ -89,7 +89,7 @@ fn ask_cells<C: ChainView>(alloc: Global, context: &Context<'_, C>) -> Result<()
 
 /// Asks the rules of bodies and of new members.
 #[tactic(auto, unfolding(crate::specs::Stops::first_members))]
-fn ask_members<C: ChainView>(alloc: Global, context: &Context<'_, C>) -> Result<(), Stop>
+fn ask_members<C: ChainView>(alloc: Global, context: &Context<'_, C>) -> Result<(), RuleFault>
     ensures { TellsFirst result (first_members context.now.chain context.now.delta) }
 {
     rule(16, broken_body(alloc, context)?)?;
@@ -101,7 +101,7 @@ fn ask_members<C: ChainView>(alloc: Global, context: &Context<'_, C>) -> Result<
 
 /// Asks the rules of signatures, and how many deltas and rows there may be. Rule 22 is one of PDBs.
 #[tactic(auto, unfolding(crate::specs::Stops::first_signatures))]
-fn ask_signatures<C: ChainView>(alloc: Global, context: &Context<'_, C>) -> Result<(), Stop>
+fn ask_signatures<C: ChainView>(alloc: Global, context: &Context<'_, C>) -> Result<(), RuleFault>
     ensures { TellsFirst result (first_signatures context.now.chain context.now.delta) }
 {
     rule(21, bad_signature(alloc, context)?)?;
@@ -111,7 +111,7 @@ fn ask_signatures<C: ChainView>(alloc: Global, context: &Context<'_, C>) -> Resu
 
 /// Asks the rules, in the order of their numbers, up to the first that is broken.
 #[tactic(auto, using(crate::proofs::Parts::first_parts))]
-fn ask<C: ChainView>(alloc: Global, context: &Context<'_, C>) -> Result<(), Stop>
+fn ask<C: ChainView>(alloc: Global, context: &Context<'_, C>) -> Result<(), RuleFault>
     ensures { TellsFirst result (first_meta context.now.chain context.now.delta) }
 {
     ask_identity(context)?;
@@ -140,8 +140,8 @@ impl Delta {
         };
         match ask(alloc, &context) {
             Ok(()) => Ok(None),
-            Err(Stop::Broken(refusal)) => Ok(Some(refusal)),
-            Err(Stop::Memory) => Err(AllocError),
+            Err(RuleFault::Broken(refusal)) => Ok(Some(refusal)),
+            Err(RuleFault::Memory) => Err(AllocError),
         }
     }
 }

@@ -4,10 +4,10 @@ use Rattle.std.specs.Prelude.{◌||◌, ◌==◌, drop, option_map, option_and_t
 use Rattle.enc_base.specs.Readers.{Reader, giving, both, number_in}
 use Rattle.enc_base.specs.Token.{nil}
 use Rattle.enc_base.specs.declared.token.Token.{Token}
-use Rattle.enc_sigs.specs.declared.form.Form.{Form}
-use Rattle.enc_sigs.specs.declared.form.Form.TheVariants as form
-use Rattle.enc_sigs.specs.declared.form.Numeral.{Numeral}
-use Rattle.enc_sigs.specs.declared.form.Numeral.TheVariants.{Size, Bound}
+use Rattle.enc_sigs.specs.declared.type_form.TypeForm.{TypeForm}
+use Rattle.enc_sigs.specs.declared.type_form.TypeForm.TheVariants as form
+use Rattle.enc_sigs.specs.declared.type_form.Numeral.{Numeral}
+use Rattle.enc_sigs.specs.declared.type_form.Numeral.TheVariants.{Size, Bound}
 use Rattle.enc_sigs.specs.declared.kind.SigKind.TheVariants.{Method, TypeSpec}
 use Rattle.enc_sigs.specs.Tree.{Forest, none, more, Tree, SigTree, forest_of}
 use Rattle.enc_sigs.specs.Grammar.{upon, many, list_in, byte_in, token_in, token_named, tree, form_of, wrapped_in, named_in, modified_in, numbered_in, numeral_in, numerals_in, array_in, instance_in, begins, more_in, marked_in, params, calling_in, parts_in, method_in, pointer_in, formed_in, elem_in, type_in, front_in, unless_more, all_of, sig_in}
@@ -179,7 +179,7 @@ pointer_gives Known r b z all =
 bare_gives : (Known : Token → Type 0) (b : ℕ) → Known nil → AreTrees Known (λ bytes. Some (tree b nil 0 [], bytes))
 bare_gives Known b z bytes p e = let f : (tree b nil 0 [], bytes) ≡ p = cc in subst (λ x. TreeKnown Known x.0) f (z, tt)
 
-formed_gives : (Known : Token → Type 0) (good : ℕ → Bool) (r : Reader Tree) (f : Form) (b : ℕ) → IsTest Known good → AreTrees Known r → AreTrees Known (formed_in good r f b)
+formed_gives : (Known : Token → Type 0) (good : ℕ → Bool) (r : Reader Tree) (f : TypeForm) (b : ℕ) → IsTest Known good → AreTrees Known r → AreTrees Known (formed_in good r f b)
 unfolding formed_in
 formed_gives Known good r form.Bare b test all = bare_gives Known b test.nothing
 formed_gives Known good r form.Wrapped b test all = wrapped_gives Known r b test.nothing all
@@ -190,7 +190,7 @@ formed_gives Known good r form.Array b test all = array_gives Known r b test.not
 formed_gives Known good r form.Instance b test all = instance_gives Known good r b test.passes all
 formed_gives Known good r form.Pointer b test all = pointer_gives Known r b test.nothing all
 
-opened_gives : (Known : Token → Type 0) (good : ℕ → Bool) (r : Reader Tree) (o : Option Form) (b : ℕ) (rest : List ℕ) (p : Tree × List ℕ) → IsTest Known good → AreTrees Known r → option_and_then {T = Form} (λ f. formed_in good r f b rest) o ≡ Some p → TreeKnown Known p.0
+opened_gives : (Known : Token → Type 0) (good : ℕ → Bool) (r : Reader Tree) (o : Option TypeForm) (b : ℕ) (rest : List ℕ) (p : Tree × List ℕ) → IsTest Known good → AreTrees Known r → option_and_then {T = TypeForm} (λ f. formed_in good r f b rest) o ≡ Some p → TreeKnown Known p.0
 opened_gives Known good r None b rest p test all e = absurd cc
 opened_gives Known good r (Some f) b rest p test all e = formed_gives Known good r f b test all rest p e
 

@@ -4,10 +4,10 @@ use Rattle.std.specs.Prelude.{◌||◌, ◌==◌, drop, option_map, option_and_t
 use Rattle.enc_base.specs.Readers.{Reader, giving, both, number_in}
 use Rattle.enc_base.specs.Token.{nil}
 use Rattle.enc_base.specs.declared.token.Token.{Token}
-use Rattle.enc_sigs.specs.declared.form.Form.{Form}
-use Rattle.enc_sigs.specs.declared.form.Form.TheVariants as form
-use Rattle.enc_sigs.specs.declared.form.Numeral.{Numeral}
-use Rattle.enc_sigs.specs.declared.form.Numeral.TheVariants.{Size, Bound}
+use Rattle.enc_sigs.specs.declared.type_form.TypeForm.{TypeForm}
+use Rattle.enc_sigs.specs.declared.type_form.TypeForm.TheVariants as form
+use Rattle.enc_sigs.specs.declared.type_form.Numeral.{Numeral}
+use Rattle.enc_sigs.specs.declared.type_form.Numeral.TheVariants.{Size, Bound}
 use Rattle.enc_sigs.specs.declared.kind.SigKind.TheVariants.{Method, TypeSpec}
 use Rattle.enc_sigs.specs.declared.mix.Mix.{Mix}
 use Rattle.enc_sigs.specs.Mix.{mix_of, mixed, mixed_both}
@@ -189,7 +189,7 @@ pointer_sees r s t b all = giving_sees (λ (p : (ℕ × ℕ) × List Tree). tree
 bare_sees : (b : ℕ) → Sees (λ bytes. Some (tree b nil 0 [], bytes)) (λ h bytes. Some (h, bytes)) (λ h bytes. Some (h, bytes))
 bare_sees b bytes p e h = let f : (tree b nil 0 [], bytes) ≡ p = cc in subst (λ (x : Tree × List ℕ). AreOne (Some (h, bytes)) (Some (h, bytes)) x.1) f (h, refl, refl)
 
-formed_sees : (good : ℕ → Bool) (key new : Token → Mix) (r : Reader Tree) (s t : Shaping) (f : Form) (b : ℕ) → AgreeOn good key new → Sees r s t → Sees (formed_in good r f b) (formed_shape key s f) (formed_shape new t f)
+formed_sees : (good : ℕ → Bool) (key new : Token → Mix) (r : Reader Tree) (s t : Shaping) (f : TypeForm) (b : ℕ) → AgreeOn good key new → Sees r s t → Sees (formed_in good r f b) (formed_shape key s f) (formed_shape new t f)
 unfolding formed_in formed_shape
 formed_sees good key new r s t form.Bare b agree all = bare_sees b
 formed_sees good key new r s t form.Wrapped b agree all = wrapped_sees r s t b all
@@ -200,8 +200,8 @@ formed_sees good key new r s t form.Array b agree all = array_sees r s t b all
 formed_sees good key new r s t form.Instance b agree all = instance_sees good key new r s t b agree all
 formed_sees good key new r s t form.Pointer b agree all = pointer_sees r s t b all
 
-opened_sees : (good : ℕ → Bool) (key new : Token → Mix) (r : Reader Tree) (s t : Shaping) (o : Option Form) (b : ℕ) (rest : List ℕ) (p : Tree × List ℕ) (h : Mix) → AgreeOn good key new → Sees r s t → option_and_then {T = Form} (λ f. formed_in good r f b rest) o ≡ Some p
-    → AreOne (option_and_then {T = Form} (λ f. formed_shape key s f h rest) o) (option_and_then {T = Form} (λ f. formed_shape new t f h rest) o) p.1
+opened_sees : (good : ℕ → Bool) (key new : Token → Mix) (r : Reader Tree) (s t : Shaping) (o : Option TypeForm) (b : ℕ) (rest : List ℕ) (p : Tree × List ℕ) (h : Mix) → AgreeOn good key new → Sees r s t → option_and_then {T = TypeForm} (λ f. formed_in good r f b rest) o ≡ Some p
+    → AreOne (option_and_then {T = TypeForm} (λ f. formed_shape key s f h rest) o) (option_and_then {T = TypeForm} (λ f. formed_shape new t f h rest) o) p.1
 opened_sees good key new r s t None b rest p h agree all e = absurd cc
 opened_sees good key new r s t (Some f) b rest p h agree all e = formed_sees good key new r s t f b agree all rest p e h
 

@@ -7,7 +7,7 @@ use Rattle.enc_base.specs.Token.{nth_row, is_token}
 use Rattle.enc_base.specs.declared.token.Token.{Token}
 use Rattle.enc_base.proofs.First.{first_none, first_suc}
 use Rattle.enc_key_map.specs.declared.index.Index.{Index}
-use Rattle.enc_key_map.specs.declared.index.Entry.{Entry}
+use Rattle.enc_key_map.specs.declared.index.KeyEntry.{KeyEntry}
 use Rattle.enc_key_map.specs.declared.key.Key.{Key}
 use Rattle.enc_key_map.specs.Key.{is_key}
 use Rattle.enc_key_map.specs.Index.{value_at, either, latest_one, entry_key, value_of}
@@ -62,7 +62,7 @@ pub or_or : {A : Type 0} (a b c : Option A) → or_else (or_else a b) c ≡ or_e
 or_or None b c = refl
 or_or (Some x) b c = refl
 
-pub earliest_push : {P : Type 0} (entries : List (Entry P)) (e : Entry P) (q : Key) → earliest (entries ++ e ∷ []) q ≡ or_else (earliest entries q) (latest_one e q)
+pub earliest_push : {P : Type 0} (entries : List (KeyEntry P)) (e : KeyEntry P) (q : Key) → earliest (entries ++ e ∷ []) q ≡ or_else (earliest entries q) (latest_one e q)
 earliest_push [] e q = or_none (latest_one e q)
 earliest_push (f ∷ fs) e q = ap (or_else (latest_one f q)) (earliest_push fs e q) ∙ sym (or_or (latest_one f q) (earliest fs q) (latest_one e q))
 
@@ -73,14 +73,14 @@ push_kept index key q v old h = by_key (is_key key q) refl
     by_key true e = sym (ap (or_else old) (unless_some (value_at index q) (Some v) (ap (λ k. is_some (value_at index k)) (sym (key_is key q e)) ∙ h)) ∙ or_none old)
     by_key false e = sym (ap (or_else old) (unless_none (value_at index q)) ∙ or_none old)
 
-new_one : {P : Type 0} (index : Index P) (key q : Key) (v : P) (e : Entry P) → is_some (value_at index key) ≡ false → entry_key e ≡ key → value_of e ≡ v → latest_one e q ≡ where_none (value_at index q) (if is_key key q then Some v else None)
+new_one : {P : Type 0} (index : Index P) (key q : Key) (v : P) (e : KeyEntry P) → is_some (value_at index key) ≡ false → entry_key e ≡ key → value_of e ≡ v → latest_one e q ≡ where_none (value_at index q) (if is_key key q then Some v else None)
 new_one index key q v e h ek ev = ap (λ k. if is_key k q then Some (value_of e) else None) ek ∙ ap (λ x. if is_key key q then Some x else None) ev ∙ by_key (is_key key q) refl
   where
     by_key : (b : Bool) → is_key key q ≡ b → (if b then Some v else None) ≡ where_none (value_at index q) (if b then Some v else None)
     by_key true f = let none : value_at index q ≡ None = ap (value_at index) (sym (key_is key q f)) ∙ none_is (value_at index key) h in rw none refl
     by_key false f = sym (unless_none (value_at index q))
 
-pub push_new : {P : Type 0} (index : Index P) (key q : Key) (v : P) (e : Entry P) (old new : List (Entry P)) → is_some (value_at index key) ≡ false → entry_key e ≡ key → value_of e ≡ v → new ≡ old ++ e ∷ [] → earliest new q ≡ or_else (earliest old q) (where_none (value_at index q) (if is_key key q then Some v else None))
+pub push_new : {P : Type 0} (index : Index P) (key q : Key) (v : P) (e : KeyEntry P) (old new : List (KeyEntry P)) → is_some (value_at index key) ≡ false → entry_key e ≡ key → value_of e ≡ v → new ≡ old ++ e ∷ [] → earliest new q ≡ or_else (earliest old q) (where_none (value_at index q) (if is_key key q then Some v else None))
 push_new index key q v e old new h ek ev is = ap (λ es. earliest es q) is ∙ earliest_push old e q ∙ ap (or_else (earliest old q)) (new_one index key q v e h ek ev)
 
 over_or : {A : Type 0} (a b old : Option A) → either (or_else a b) old ≡ either a (either b old)
@@ -88,7 +88,7 @@ over_or None b old = refl
 over_or (Some x) b old = refl
 
 -- an entry put in before those that come earlier
-pub put_before : {P : Type 0} (entries rest : List (Entry P)) (e : Entry P) (old : Option P) (q : Key) → entries ≡ rest ++ e ∷ [] → either (earliest entries q) old ≡ either (earliest rest q) (either (latest_one e q) old)
+pub put_before : {P : Type 0} (entries rest : List (KeyEntry P)) (e : KeyEntry P) (old : Option P) (q : Key) → entries ≡ rest ++ e ∷ [] → either (earliest entries q) old ≡ either (earliest rest q) (either (latest_one e q) old)
 put_before entries rest e old q is = ap (λ es. either (earliest es q) old) is ∙ ap (λ o. either o old) (earliest_push rest e q) ∙ over_or (earliest rest q) (latest_one e q) old
 
 -- one place more of a rule behind a number

@@ -17,11 +17,11 @@ use Rattle.enc_dispatch.specs.declared.method_part.MethodPart.{MethodPart}
 use Rattle.enc_dispatch.specs.declared.impl_part.ImplPart.{ImplPart}
 use Rattle.enc_plain.specs.ClassPath.{is_class, before_class}
 use Rattle.enc_dispatch.specs.Walks.{impl_of, method_at, is_virtual, is_public, is_new_slot, same_slot, takes_slot, meets, first_method}
-use Rattle.enc_dispatch.specs.Target.{own_turn, turn, go_on, walk_down, class_target, from_interface, given_by, first_given, interface_target, is_interface, target_by, target_of}
+use Rattle.enc_dispatch.specs.Target.{own_turn, turn, go_on, walk_down, class_target, from_interface, given_by, first_given, interface_target, is_interface, declared_target, target_of}
 use Rattle.enc_dispatch.specs.Index.{StandsForModule}
 use Rattle.enc_dispatch.specs.Stored.{DispatchParts, own_key, impl_key, own_part}
 use Rattle.enc_dispatch.specs.Parts.{nth_part}
-use Rattle.enc_dispatch.specs.Walked.{class_part, path_in, is_interface_part, earlier_impl, body_row, row_of_own, impl_in, own_turn_in, turn_in, go_on_in, walk_down_in, place_on, class_walk_in, class_target_in, from_interface_in, given_by_in, with_class_row, first_given_in, interface_target_in, target_by_in, target_in}
+use Rattle.enc_dispatch.specs.Walked.{class_part, path_in, is_interface_part, earlier_impl, body_row, row_of_own, impl_in, own_turn_in, turn_in, go_on_in, walk_down_in, place_on, class_walk_in, class_target_in, from_interface_in, given_by_in, with_class_row, first_given_in, interface_target_in, declared_target_in, target_in}
 use Rattle.enc_dispatch.proofs.Meant.{has_part, class_there, class_none, AreClasses, path_is, path_classes, taken_classes, reversed_classes, class_row, class_has_row, from_is, from_classes, impl_is}
 
 or_mapped : {A B : Type 0} (f : A → B) (o u : Option A) → or_else (option_map f o) (option_map f u) ≡ option_map f (or_else o u)
@@ -236,8 +236,8 @@ by_interface : (b : Bool) (f : Token → Token) (o u : Option Token) (v w : Opti
 by_interface true f o u v w e h = e
 by_interface false f o u v w e h = h
 
-target_by_is : (d : DispatchParts) (m : Module) (class : Token) (declared : ℕ) (p : MethodPart) → StandsForModule d m → nth_part d.methods declared ≡ Some p → p.owner.table ≡ 0x02 → target_by m class (method_at declared) p.owner ≡ option_map method_at (target_by_in d class declared p)
-unfolding target_by target_by_in
+target_by_is : (d : DispatchParts) (m : Module) (class : Token) (declared : ℕ) (p : MethodPart) → StandsForModule d m → nth_part d.methods declared ≡ Some p → p.owner.table ≡ 0x02 → declared_target m class (method_at declared) p.owner ≡ option_map method_at (declared_target_in d class declared p)
+unfolding declared_target declared_target_in
 target_by_is d m class declared p stands part at =
     rw (interface_is d m p.owner stands at)
     (by_interface (is_interface_part (class_part d p.owner)) (λ t. t) _ _ _ _ (interface_target_is d m class p.owner declared p stands part) (class_target_is d m class p.owner declared p stands part))
@@ -245,7 +245,7 @@ target_by_is d m class declared p stands part at =
 method_is : (t : Token) → (t.table == 0x06) ≡ true → t ≡ method_at t.row
 method_is t h = let e : t.table ≡ 0x06 = grind (arith, nat_tests) in ap (λ n. record { table = n; row = t.row }) e
 
-target_row : (d : DispatchParts) (m : Module) (class : Token) (row : ℕ) → StandsForModule d m → IsTrue (has_row m (method_at row)) → option_map method_at (option_and_then (target_by_in d class row) (nth_part d.methods row)) ≡ option_and_then (target_by m class (method_at row)) (owner_of m (method_at row))
+target_row : (d : DispatchParts) (m : Module) (class : Token) (row : ℕ) → StandsForModule d m → IsTrue (has_row m (method_at row)) → option_map method_at (option_and_then (declared_target_in d class row) (nth_part d.methods row)) ≡ option_and_then (declared_target m class (method_at row)) (owner_of m (method_at row))
 target_row d m class row stands there =
     let p = method_there d m row stands there in
     rw (p.is, p.owner) (sym (target_by_is d m class row p.part stands p.is (owner_class m row p.part.owner p.owner)))
@@ -254,9 +254,9 @@ pub target_is : (d : DispatchParts) (m : Module) (class method : Token) → Stan
 unfolding target_in target_of
 target_is d m class method stands there = by_table (method.table == 0x06) refl
   where
-    by_table : (b : Bool) → (method.table == 0x06) ≡ b → (if b then option_map method_at (option_and_then (target_by_in d class method.row) (nth_part d.methods method.row)) else None) ≡ (if b then option_and_then (target_by m class method) (owner_of m method) else None)
+    by_table : (b : Bool) → (method.table == 0x06) ≡ b → (if b then option_map method_at (option_and_then (declared_target_in d class method.row) (nth_part d.methods method.row)) else None) ≡ (if b then option_and_then (declared_target m class method) (owner_of m method) else None)
     by_table false is = refl
     by_table true is =
         let e = method_is method is in
         target_row d m class method.row stands (subst (λ t. has_row m t ≡ true) e there)
-        ∙ ap (λ t. option_and_then (target_by m class t) (owner_of m t)) (sym e)
+        ∙ ap (λ t. option_and_then (declared_target m class t) (owner_of m t)) (sym e)

@@ -2,12 +2,12 @@
 -- index has none.
 use Rattle.std.specs.Prelude.{List, [], ◌∷◌, Option, Some, None}
 use Rattle.enc_base.specs.Order.{or_else}
-use Rattle.enc_key_map.specs.declared.index.Entry.{Entry}
+use Rattle.enc_key_map.specs.declared.index.KeyEntry.{KeyEntry}
 use Rattle.enc_key_map.specs.declared.key.Key.{Key}
 use Rattle.enc_key_map.specs.Index.{latest_one}
 
 -- the first value that some entries give a key
-abbrev pub earliest : {V : Type 0} → List (Entry V) → Key → Option V
+abbrev pub earliest : {V : Type 0} → List (KeyEntry V) → Key → Option V
 earliest [] key = None
 earliest (e ∷ es) key = or_else (latest_one e key) (earliest es key)
 

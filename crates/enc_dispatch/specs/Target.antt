@@ -67,8 +67,8 @@ abbrev pub is_interface : Module → Token → Bool
 is_interface m type = has_flag 0x20 (number_at (cells_of m) type columns.type_def_flags)
 
 -- by the type that declares the method
-unfoldable pub target_by : Module → Token → Token → Token → Option Token
-target_by m class declared declaring =
+unfoldable pub declared_target : Module → Token → Token → Token → Option Token
+declared_target m class declared declaring =
     if is_interface m declaring then interface_target m class declaring declared
     else class_target m class declaring declared
 
@@ -76,4 +76,4 @@ target_by m class declared declaring =
 -- MethodDef declares none
 unfoldable pub target_of : Module → Token → Token → Option Token
 target_of m class declared = if declared.table == tables.method_def
-    then option_and_then (target_by m class declared) (owner_of m declared) else None
+    then option_and_then (declared_target m class declared) (owner_of m declared) else None

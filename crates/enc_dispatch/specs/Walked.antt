@@ -130,13 +130,13 @@ interface_target_in d class interface declared slot =
     (first_given_in d slot declared (from_interface_in d interface (path_in d class)))
 
 -- by the part of the method
-unfoldable pub target_by_in : DispatchParts → Token → ℕ → MethodPart → Option ℕ
-target_by_in d class declared p =
+unfoldable pub declared_target_in : DispatchParts → Token → ℕ → MethodPart → Option ℕ
+declared_target_in d class declared p =
     if is_interface_part (class_part d p.owner) then interface_target_in d class p.owner declared p.slot
     else class_target_in d class p.owner declared
 
 unfoldable pub target_in : DispatchParts → Token → Token → Option Token
 target_in d class method =
     if method.table == tables.method_def
-    then option_map method_at (option_and_then (target_by_in d class method.row) (nth_part d.methods method.row))
+    then option_map method_at (option_and_then (declared_target_in d class method.row) (nth_part d.methods method.row))
     else None

@@ -6,13 +6,13 @@ ghost use Rattle.enc_key_map.specs.declared.key.Key.{Key as TheKey};
 ghost use Rattle.enc_key_map.specs.Key.{is_key};
 ghost use Rattle.enc_key_map.specs.Index.{value_at, either};
 
-use enc_key_map::{Entry, Index, Key};
+use enc_key_map::{Index, Key, KeyEntry};
 use std::alloc::{AllocError, Global};
 
 /// Appends a value, unless an index has one of its key.
 #[tactic(auto, using(crate::proofs::Put::push_kept, crate::proofs::Put::push_new))]
 pub(crate) fn push_first<P: Drop>(
-    entries: &mut Vec<Entry<P>>,
+    entries: &mut Vec<KeyEntry<P>>,
     alloc: Global,
     index: &Index<P>,
     key: Key,
@@ -25,13 +25,13 @@ pub(crate) fn push_first<P: Drop>(
     if index.get(key).is_some() {
         return Ok(());
     }
-    let entry = Entry::new(alloc, key, value)?;
+    let entry = KeyEntry::new(alloc, key, value)?;
     entries.push(entry)?;
     Ok(())
 }
 
 /// Puts values in, from the last to the first, so that the first of each key counts.
-pub(crate) fn put_from_behind<P: Drop>(index: &mut Index<P>, entries: Vec<Entry<P>>)
+pub(crate) fn put_from_behind<P: Drop>(index: &mut Index<P>, entries: Vec<KeyEntry<P>>)
     ensures { (q : TheKey) → value_at index.new q ≡ either (earliest entries.items q) (value_at index.old q) }
 {
     let mut rest = entries;

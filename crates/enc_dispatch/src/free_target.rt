@@ -3,7 +3,7 @@ ghost use Rattle.std.specs.Prelude.{◌≡◌};
 ghost use Rattle.enc_plain.specs.Sound.{IsSound};
 ghost use Rattle.enc_dispatch.specs.Target.{target_of};
 
-use crate::free_walk::target_by;
+use crate::free_walk::declared_target;
 use enc_base::Token;
 use enc_base::tables::METHOD_DEF;
 use enc_plain::{ModuleView, is_row};
@@ -24,5 +24,5 @@ pub fn target<V: ModuleView>(view: &V, class: Token, method: Token) -> Option<To
     if !is_row(view, method) {
         return None;
     }
-    target_by(view, class, method, view.owner(method))
+    declared_target(view, class, method, view.owner(method))
 }

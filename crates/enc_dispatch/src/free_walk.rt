@@ -3,7 +3,7 @@ ghost use Rattle.std.specs.Prelude.{◌≡◌, ◌<◌, ◌≤◌, ◌^◌, leng
 ghost use Rattle.enc_base.specs.Tables.{method_def, type_def};
 ghost use Rattle.enc_dispatch.specs.Asked.{left_of, is_wanted};
 ghost use Rattle.enc_plain.specs.ClassPath.{path_of};
-ghost use Rattle.enc_dispatch.specs.Target.{turn, walk_down, class_target, given_by, first_given, interface_target, is_interface, target_by};
+ghost use Rattle.enc_dispatch.specs.Target.{turn, walk_down, class_target, given_by, first_given, interface_target, is_interface, declared_target};
 ghost use Rattle.enc_dispatch.specs.Walks.{impl_at, impl_of, same_slot, takes_slot, meets, first_method};
 
 use crate::climb::Climb;
@@ -241,8 +241,8 @@ fn is_interface<V: ModuleView>(view: &V, token: Token) -> bool
 }
 
 /// By the type that declares the method.
-#[tactic(auto, unfolding(crate::specs::Target::target_by))]
-pub(crate) fn target_by<V: ModuleView>(
+#[tactic(auto, unfolding(crate::specs::Target::declared_target))]
+pub(crate) fn declared_target<V: ModuleView>(
     view: &V,
     class: Token,
     declared: Token,
@@ -250,7 +250,7 @@ pub(crate) fn target_by<V: ModuleView>(
 ) -> Option<Token>
     requires declared { declared.table ≡ method_def }
     requires declaring { declaring.table ≡ type_def }
-    ensures { result ≡ target_by (V.meaning view.now) class declared declaring }
+    ensures { result ≡ declared_target (V.meaning view.now) class declared declaring }
 {
     if is_interface(view, declaring) {
         return interface_target(view, class, declaring, declared);

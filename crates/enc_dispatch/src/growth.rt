@@ -4,7 +4,7 @@ use crate::impl_part::ImplPart;
 use crate::method_part::MethodPart;
 use crate::own_method::OwnMethod;
 use enc_base::Token;
-use enc_key_map::Entry;
+use enc_key_map::KeyEntry;
 
 /// What comes to an index with rows that are added to its module: parts that stand behind those that
 /// are there, and entries, of which the first of each key counts where the index has none; of the heads
@@ -13,10 +13,10 @@ use enc_key_map::Entry;
 pub struct Growth {
     pub(crate) classes: Vec<ClassPart>,
     pub(crate) methods: Vec<MethodPart>,
-    pub(crate) own: Vec<Entry<OwnMethod>>,
-    pub(crate) met: Vec<Entry<OwnMethod>>,
-    pub(crate) impls: Vec<Entry<ImplPart>>,
-    pub(crate) interfaces: Vec<Entry<Token>>,
-    pub(crate) heads: Vec<Entry<u32>>,
+    pub(crate) own: Vec<KeyEntry<OwnMethod>>,
+    pub(crate) met: Vec<KeyEntry<OwnMethod>>,
+    pub(crate) impls: Vec<KeyEntry<ImplPart>>,
+    pub(crate) interfaces: Vec<KeyEntry<Token>>,
+    pub(crate) heads: Vec<KeyEntry<u32>>,
     pub(crate) links: Vec<Option<u32>>,
 }

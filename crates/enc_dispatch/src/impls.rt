@@ -14,7 +14,7 @@ use crate::impl_part::ImplPart;
 use crate::keys::impl_key;
 use enc_base::Token;
 use enc_base::tables::{METHOD_DEF, METHOD_IMPL, TYPE_DEF};
-use enc_key_map::{Entry, Index};
+use enc_key_map::{Index, KeyEntry};
 use enc_plain::{CellView, ModuleView, Viewed};
 use std::alloc::{AllocError, Global};
 
@@ -33,7 +33,7 @@ fn push_impl<V: ModuleView>(
     view: &V,
     n: u32,
     index: &Index<ImplPart>,
-    impls: &mut Vec<Entry<ImplPart>>,
+    impls: &mut Vec<KeyEntry<ImplPart>>,
 ) -> Result<(), AllocError>
     requires { n < 2 ^ 24 }
     ensures { IfOk result (λ _. (class declaration : ℕ) → earliest impls.new.items (impl_key class declaration)
@@ -72,7 +72,7 @@ pub(crate) fn impls_of<V: ModuleView>(
     view: &V,
     read: u32,
     index: &Index<ImplPart>,
-) -> Result<Vec<Entry<ImplPart>>, AllocError>
+) -> Result<Vec<KeyEntry<ImplPart>>, AllocError>
     requires { read ≤ row_count (V.meaning view.now) method_impl }
     ensures { IfOk result (λ impls. (class declaration : ℕ) → earliest impls.items (impl_key class declaration)
         ≡ where_none (value_at index.now (impl_key class declaration)) (later_answer

@@ -15,7 +15,7 @@ use crate::first::push_first;
 use crate::keys::interface_key;
 use enc_base::Token;
 use enc_base::tables::{INTERFACE_IMPL, TYPE_DEF};
-use enc_key_map::{Entry, Index};
+use enc_key_map::{Index, KeyEntry};
 use enc_plain::{CellView, ModuleView, Viewed};
 use std::alloc::{AllocError, Global};
 
@@ -26,7 +26,7 @@ fn push_interface<V: ModuleView>(
     view: &V,
     n: u32,
     index: &Index<Token>,
-    interfaces: &mut Vec<Entry<Token>>,
+    interfaces: &mut Vec<KeyEntry<Token>>,
 ) -> Result<(), AllocError>
     requires { n < 2 ^ 24 }
     ensures { IfOk result (λ _. (class : ℕ) (i : TheToken) → earliest interfaces.new.items (interface_key class i)
@@ -55,7 +55,7 @@ pub(crate) fn interfaces_of<V: ModuleView>(
     view: &V,
     read: u32,
     index: &Index<Token>,
-) -> Result<Vec<Entry<Token>>, AllocError>
+) -> Result<Vec<KeyEntry<Token>>, AllocError>
     requires { read ≤ row_count (V.meaning view.now) interface_impl }
     ensures { IfOk result (λ interfaces. (class : ℕ) (i : TheToken) → earliest interfaces.items (interface_key class i)
         ≡ where_none (value_at index.now (interface_key class i)) (later_answer

@@ -18,7 +18,7 @@ use crate::path::nth_part;
 use crate::wanted::Wanted;
 use enc_base::Token;
 use enc_base::tables::{METHOD_DEF, TYPE_DEF};
-use enc_key_map::{Entry, Index};
+use enc_key_map::{Index, KeyEntry};
 use enc_plain::{CellView, ModuleView, Viewed};
 use enc_schema::columns::METHOD_DEF_FLAGS;
 use std::alloc::{AllocError, Global};
@@ -116,7 +116,7 @@ fn push_own<V: ModuleView>(
     class: u32,
     row: u32,
     index: &Index<OwnMethod>,
-    own: &mut Vec<Entry<OwnMethod>>,
+    own: &mut Vec<KeyEntry<OwnMethod>>,
 ) -> Result<(), AllocError>
     ensures { IfOk result (λ _. (c s : ℕ) → earliest own.new.items (own_key c s)
         ≡ or_else (earliest own.old.items (own_key c s)) (where_none (value_at index.now (own_key c s))
@@ -140,7 +140,7 @@ fn push_kids<V: ModuleView>(
     class: u32,
     kids: &[u32],
     index: &Index<OwnMethod>,
-    own: &mut Vec<Entry<OwnMethod>>,
+    own: &mut Vec<KeyEntry<OwnMethod>>,
 ) -> Result<(), AllocError>
     ensures { IfOk result (λ _. (c s : ℕ) → earliest own.new.items (own_key c s)
         ≡ or_else (earliest own.old.items (own_key c s)) (where_none (value_at index.now (own_key c s))
@@ -205,7 +205,7 @@ pub(crate) fn own_of<V: ModuleView>(
     owners: &[u32],
     read: u32,
     index: &Index<OwnMethod>,
-) -> Result<Vec<Entry<OwnMethod>>, AllocError>
+) -> Result<Vec<KeyEntry<OwnMethod>>, AllocError>
     requires { AreOwners (V.meaning view.now) read owners.now }
     ensures { IfOk result (λ own. (c s : ℕ) → earliest own.items (own_key c s)
         ≡ where_none (value_at index.now (own_key c s)) (own_among (V.meaning view.now)

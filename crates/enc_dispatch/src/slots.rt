@@ -11,7 +11,7 @@ ghost use Rattle.enc_dispatch.specs.Slots.{slot_in};
 use crate::names::MethodNames;
 use enc_base::Token;
 use enc_base::tables::METHOD_DEF;
-use enc_key_map::{Entry, Index, Key, push_entry};
+use enc_key_map::{Index, Key, KeyEntry, push_entry};
 use enc_plain::CellView;
 use std::alloc::{AllocError, Global};
 
@@ -28,7 +28,7 @@ pub(crate) struct Slots {
 #[derive(Drop)]
 pub(crate) struct MoreSlots {
     pub heads: Index<u32>,
-    pub entries: Vec<Entry<u32>>,
+    pub entries: Vec<KeyEntry<u32>>,
     pub next: Vec<Option<u32>>,
 }
 
@@ -156,7 +156,7 @@ impl MoreSlots {
     {
         self.add(below, key)?;
         push_entry(&mut self.entries, alloc, bucket_key(key), row)?;
-        self.heads.put(Entry::new(alloc, bucket_key(key), row)?);
+        self.heads.put(KeyEntry::new(alloc, bucket_key(key), row)?);
         Ok(())
     }
 

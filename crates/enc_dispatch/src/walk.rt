@@ -1,6 +1,6 @@
 //! The walks over a path, by which a virtual call is answered.
 ghost use Rattle.std.specs.Prelude.{◌≡◌, ◌≤◌, length, reverse, take};
-ghost use Rattle.enc_dispatch.specs.Walked.{left_in, path_in, slot_at, earlier_impl, impl_in, turn_in, walk_down_in, class_target_in, given_by_in, first_given_in, interface_target_in, target_by_in, target_in, class_walk_in};
+ghost use Rattle.enc_dispatch.specs.Walked.{left_in, path_in, slot_at, earlier_impl, impl_in, turn_in, walk_down_in, class_target_in, given_by_in, first_given_in, interface_target_in, declared_target_in, target_in, class_walk_in};
 
 use crate::climb::Climb;
 use crate::dispatch::Dispatch;
@@ -131,9 +131,9 @@ impl Dispatch {
     }
 
     /// By the type that declares the method.
-    #[tactic(auto, unfolding(crate::specs::Walked::target_by_in))]
-    fn target_by(&self, class: Token, declared: u32, part: MethodPart) -> Option<u32>
-        ensures { result ≡ target_by_in self.now class declared part }
+    #[tactic(auto, unfolding(crate::specs::Walked::declared_target_in))]
+    fn declared_target(&self, class: Token, declared: u32, part: MethodPart) -> Option<u32>
+        ensures { result ≡ declared_target_in self.now class declared part }
     {
         if self.is_interface(part.owner) {
             return self.interface_target(class, part.owner, declared, part.slot);
@@ -150,7 +150,7 @@ impl Dispatch {
             return None;
         }
         let part = nth_part(&self.methods, method.row)?;
-        let row = self.target_by(class, method.row, part)?;
+        let row = self.declared_target(class, method.row, part)?;
         Some(Token {
             table: METHOD_DEF,
             row,

@@ -80,14 +80,14 @@ fn rank_in(places: &Vec<ListOf<usize>>, edit: &Edit) -> usize
 }
 
 /// What is known of the edits up to a place.
-struct Known {
+struct PlacedEdits {
     places: Vec<ListOf<usize>>,
     ranks: Vec<usize>,
 }
 
 /// The places and ranks of edits.
 #[tactic(auto, using(crate::proofs::Placing::known_none, crate::proofs::Placing::known_more))]
-fn placed(alloc: Global, edits: &[Edit]) -> Result<Known, AllocError>
+fn placed(alloc: Global, edits: &[Edit]) -> Result<PlacedEdits, AllocError>
     ensures { IfOk result (λ p. KnowsAdded p.places.items p.ranks.items edits.now) }
 {
     let mut places = no_places(alloc)?;
@@ -97,7 +97,7 @@ fn placed(alloc: Global, edits: &[Edit]) -> Result<Known, AllocError>
         ranks.push(rank_in(&places, edit))?;
         put_place(&mut places, edit, at)?;
     }
-    Ok(Known { places, ranks })
+    Ok(PlacedEdits { places, ranks })
 }
 
 /// The number at a place.
@@ -120,7 +120,7 @@ impl<'a> Added<'a> {
         ensures { IfOk result (λ a. a ≡ edits.now) }
     {
         let edits = edits.as_slice();
-        let Known { places, ranks } = placed(alloc, edits)?;
+        let PlacedEdits { places, ranks } = placed(alloc, edits)?;
         Ok(Added {
             edits,
             places,

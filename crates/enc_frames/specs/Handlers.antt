@@ -12,8 +12,8 @@ use Rattle.enc_objects.specs.declared.value.Value.TheVariants.{Obj}
 use Rattle.enc_opcodes.specs.Body.{Handler}
 use Rattle.enc_plain.specs.Module.{Module}
 use Rattle.enc_unwind.specs.Search.{is_in_range, catch_among, next_among}
-use Rattle.enc_unwind.specs.declared.stop.Stop.{Stop}
-use Rattle.enc_unwind.specs.declared.stop.Stop.TheVariants as stop
+use Rattle.enc_unwind.specs.declared.way_out.WayOut.{WayOut}
+use Rattle.enc_unwind.specs.declared.way_out.WayOut.TheVariants as stop
 use Rattle.enc_unwind.specs.declared.thrown.Thrown.{Thrown}
 use Rattle.enc_unwind.specs.declared.thrown.Thrown.TheVariants as thrown
 use Rattle.enc_frames.specs.Machine.{World, Frame, Thread}
@@ -122,7 +122,7 @@ end_finally clauses t =
 abbrev pub is_taking : {C : Type 0} → Thread C → Flight → Bool
 is_taking t flight = flight.frame == length t.below
 
-abbrev pub way_out : {C : Type 0} → Thread C → Flight → Stop
+abbrev pub way_out : {C : Type 0} → Thread C → Flight → WayOut
 way_out t flight = if is_taking t flight then stop.Before flight.clause else stop.All
 
 -- what a flight's step makes of the frames, None where the last was left, and the method that was left

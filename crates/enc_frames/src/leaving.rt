@@ -5,14 +5,14 @@ ghost use Rattle.enc_frames.specs.Does.{Does};
 ghost use Rattle.enc_frames.specs.Handlers.{ending_handler, leave_to, left_by, taken_in};
 ghost use Rattle.enc_frames.specs.HandlersSeen.{own_clauses};
 ghost use Rattle.enc_unwind.specs.Search.{next_among};
-ghost use Rattle.enc_unwind.specs.declared.stop.Stop.TheVariants as TheWay;
+ghost use Rattle.enc_unwind.specs.declared.way_out.WayOut.TheVariants as TheWay;
 
 use crate::frame::Frame;
 use crate::handler::Running;
 use crate::handlers::{handler_range, is_within};
 use crate::stop::Stop;
 use enc_objects::Value;
-use enc_unwind::{Stop as WayOut, next_handler};
+use enc_unwind::{WayOut, next_handler};
 use std::alloc::Global;
 use std::mem;
 

@@ -7,7 +7,7 @@ ghost use Rattle.enc_plain.specs.declared.place.RowPlace.{RowPlace as ThePlace};
 ghost use Rattle.enc_generation_map.specs.Places.{place_key, places_kept, generation_kept, BeginWith};
 
 use enc_base::Token;
-use enc_key_map::{Entry, Index, Key, push_entry};
+use enc_key_map::{Index, Key, KeyEntry, push_entry};
 use enc_plain::RowPlace;
 use std::alloc::{AllocError, Global};
 
@@ -29,8 +29,8 @@ impl Drop for Places {
 /// Places that one generation brings, with the room that they take.
 #[derive(Drop)]
 pub struct Listings {
-    places: Vec<Entry<RowPlace>>,
-    counts: Vec<Entry<u32>>,
+    places: Vec<KeyEntry<RowPlace>>,
+    counts: Vec<KeyEntry<u32>>,
 }
 
 /// The key of one of a token's places, by its number from 0.

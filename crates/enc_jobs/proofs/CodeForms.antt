@@ -15,7 +15,7 @@ use Rattle.enc_edit_list.specs.declared.body.ArgValue.TheVariants as arg
 use Rattle.enc_edit_list.specs.declared.body.InstrValue.{InstrValue}
 use Rattle.enc_edit_list.specs.Form.{lies_in, arg_fits, instr_fits, clause_is_stated, body_fits}
 use Rattle.enc_jobs.specs.declared.code.Offsets.{Offsets}
-use Rattle.enc_jobs.specs.declared.code.Code.{Code}
+use Rattle.enc_jobs.specs.declared.code.InstrCode.{InstrCode}
 use Rattle.enc_jobs.specs.declared.body.Placed.{Placed}
 use Rattle.enc_jobs.specs.declared.body.Method.{Method}
 use Rattle.enc_jobs.specs.Json.{elements_of, has_only, at_key_or, number_said, word_said, hex_said, bytes_said, token_said, token_number_said}
@@ -149,7 +149,7 @@ instr_keeps starts i j fits h =
     let p = and_parts (is_op i.op) (arg_fits i.op.operand i.arg) fits in
     rw (← w.2) (and_from (is_op i.op) (arg_fits i.op.operand w.0) p.0 (arg_keeps i.op.operand starts i.arg w.0 p.1 w.1))
 
-code_has : NamedAreFound → (d : Data) (c : Code) → code_said d ≡ Some c → list_all instr_fits c.instrs ≡ true
+code_has : NamedAreFound → (d : Data) (c : InstrCode) → code_said d ≡ Some c → list_all instr_fits c.instrs ≡ true
 unfolding code_said
 code_has known d c h =
     let items = then_some (elements_of d) _ c h in

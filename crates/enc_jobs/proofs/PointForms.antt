@@ -16,7 +16,7 @@ use Rattle.enc_edit_list.specs.declared.edit.EditList.{EditList}
 use Rattle.enc_edit_list.specs.Form.{stated_columns}
 use Rattle.enc_edit_list.specs.Sizes.{arg_meant, instr_meant, length_of_code}
 use Rattle.enc_pdb_writer.specs.Stated.{stands_within, points_lie_within}
-use Rattle.enc_jobs.specs.declared.code.Code.{Code}
+use Rattle.enc_jobs.specs.declared.code.InstrCode.{InstrCode}
 use Rattle.enc_jobs.specs.declared.code.Offsets.{Offsets}
 use Rattle.enc_jobs.specs.declared.body.Placed.{Placed}
 use Rattle.enc_jobs.specs.declared.body.Method.{Method}
@@ -65,7 +65,7 @@ place_low (x ∷ code) at (suc k) t h =
 abbrev AreBelow : List ℕ → ℕ → Type 0
 AreBelow starts n = (k t : ℕ) → slice_get starts k ≡ Some t → t < n
 
-code_low : (c : Code) → offsets_of c.instrs ≡ Some c.offsets → AreBelow c.offsets.starts (length_of_code c.instrs)
+code_low : (c : InstrCode) → offsets_of c.instrs ≡ Some c.offsets → AreBelow c.offsets.starts (length_of_code c.instrs)
 unfolding offsets_of
 code_low c is k t h =
     let w = map_some _ (within_word (length_of_code c.instrs)) c.offsets is in

@@ -7,7 +7,7 @@ use Rattle.enc_edit_list.specs.declared.body.ArgValue.TheVariants as arg
 use Rattle.enc_edit_list.specs.declared.body.InstrValue.{InstrValue}
 use Rattle.enc_edit_list.specs.Sizes.{length_of_code, placed}
 use Rattle.enc_jobs.specs.declared.code.Offsets.{Offsets}
-use Rattle.enc_jobs.specs.declared.code.Code.{Code}
+use Rattle.enc_jobs.specs.declared.code.InstrCode.{InstrCode}
 use Rattle.enc_jobs.specs.Json.{elements_of}
 use Rattle.enc_jobs.specs.Lists.{every}
 use Rattle.enc_jobs.specs.Instr.{instr_said}
@@ -32,7 +32,7 @@ unfoldable pub instr_placed : List ℕ → InstrValue → Option InstrValue
 instr_placed starts i = option_map (λ a. record { op = i.op; arg = a }) (arg_placed starts i.arg)
 
 -- the instructions with the offsets of their targets
-unfoldable pub code_said : Data → Option Code
+unfoldable pub code_said : Data → Option InstrCode
 code_said d = do
   items ← elements_of d
   stated ← every instr_said items

@@ -9,6 +9,4 @@ pub mod Points
 pub mod Body
 pub mod Edits
 pub mod Laws
-pub mod Generated
-pub mod Drawn
 pub mod Scripts

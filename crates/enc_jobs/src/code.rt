@@ -24,7 +24,7 @@ pub struct Offsets {
 
 /// The instructions of a body, and where they stand.
 #[derive(Drop)]
-pub struct Code {
+pub struct InstrCode {
     pub offsets: Offsets,
     pub instrs: InstrList,
 }
@@ -113,12 +113,12 @@ fn place(alloc: Global, starts: &TargetList, code: Vec<InstrValue>) -> Result<In
 
 /// The instructions of a body with the offsets of their targets.
 #[tactic(auto, unfolding(crate::specs::Code::code_said))]
-pub fn code_in(alloc: Global, value: &Value) -> Result<Code, Refused>
+pub fn code_in(alloc: Global, value: &Value) -> Result<InstrCode, Refused>
     ensures { ReadsAs result (code_said (view value.now)) }
 {
     let items = elements(value)?;
     let stated = instrs(alloc, items)?;
     let offsets = offsets_in(alloc, stated.as_slice())?;
     let instrs = place(alloc, &offsets.starts, stated)?;
-    Ok(Code { offsets, instrs })
+    Ok(InstrCode { offsets, instrs })
 }

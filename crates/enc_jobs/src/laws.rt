@@ -1,5 +1,5 @@
-//! What every list that is read or drawn has, each as the contract of a function that does nothing.
-ghost use Rattle.enc_jobs.specs.Laws.{SaidFits, PointsLie, StandsAsRead, TargetsBegin, GeneratedFits, GeneratedLie, GeneratedTellsNothing, GeneratedMayApply, BaseIsLittle, GeneratedObeys, GeneratedStaysLittle, GeneratedIsLight, ScriptIsShort, ScriptNamesDeltas};
+//! What every list that is read has, each as the contract of a function that does nothing.
+ghost use Rattle.enc_jobs.specs.Laws.{SaidFits, PointsLie, StandsAsRead, TargetsBegin, ScriptIsShort, ScriptNamesDeltas};
 
 use enc_opcodes::name_laws;
 
@@ -15,30 +15,11 @@ pub fn points_law()
     ensures { PointsLie }
 {}
 
-/// The instructions of a body that is read stand where their targets were looked for, so each target is
-/// the offset at which an instruction begins.
+/// The instructions of a body that is read stand where their targets were looked for, so each target is the offset at
+/// which an instruction begins.
 pub fn target_laws()
     ensures stand { StandsAsRead }
     ensures begin { TargetsBegin }
-{}
-
-/// Each list of a case is of the form and has no points, and may be applied to the module that stands before it: the
-/// base with the lists before it made directly, one after the other.
-pub fn generated_laws()
-    ensures fit { GeneratedFits }
-    ensures points { GeneratedLie }
-    ensures silent { GeneratedTellsNothing }
-    ensures apply { GeneratedMayApply }
-{}
-
-/// A case is little: the base, whatever is drawn; and no list of it breaks a rule behind those before it, no heap
-/// of its
-/// deltas comes near a limit, and the module with the first of its lists can be written.
-pub fn case_laws()
-    ensures base { BaseIsLittle }
-    ensures obeys { GeneratedObeys }
-    ensures little { GeneratedStaysLittle }
-    ensures light { GeneratedIsLight }
 {}
 
 /// A script that a text says has at most 100,000 commands, and the name of each delta in it has 1 to 200 bytes,

@@ -1,4 +1,4 @@
-//! Edit lists as JSON, and drawn from a number.
+//! Edit lists and scripts as JSON.
 #![tactic(auto)]
 
 mod body;
@@ -8,7 +8,6 @@ mod code;
 mod command;
 mod edit;
 mod fault;
-mod generate;
 mod instr;
 mod laws;
 mod list;
@@ -20,8 +19,7 @@ mod value;
 
 pub use command::{Command, Script};
 pub use fault::JobFault;
-pub use generate::{Case, EditLists, make_case};
-pub use laws::{case_laws, form_law, generated_laws, points_law, script_laws, target_laws};
+pub use laws::{form_law, points_law, script_laws, target_laws};
 pub use list::read_edits;
 pub use name::is_name;
 pub use script::read_script;

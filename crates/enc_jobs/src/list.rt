@@ -162,9 +162,9 @@ pub fn parsed(alloc: Global, text: &[u8]) -> Result<Value, JobFault>
     }
 }
 
-/// The edit list that a text says, as JSON: `J1` where the text is no JSON, `J2` with the number, from 1,
-/// of the first edit that isn't of the form, or with 0 where the whole isn't, and `Memory` where there
-/// is none. The numbers of edits past 2^32 - 1 are that number.
+/// The edit list that a text says, as JSON: `J1` where the text is no JSON, `J2` with the number, from 1, of the first
+/// edit that isn't of the form, or with 0 where the whole isn't, and `Memory` where there is none. The numbers of edits
+/// past 2^32 - 1 are that number.
 #[tactic(auto, unfolding(crate::specs::Edits::edits_said))]
 pub fn read_edits(alloc: Global, text: &[u8]) -> Result<EditList, JobFault>
     ensures said { GivesList result (edits_said text.now) }

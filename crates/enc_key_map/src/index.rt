@@ -16,13 +16,13 @@ pub struct Index<V> {
 
 /// The value of a key, with the room that it takes in an index.
 #[derive(Drop)]
-pub struct Entry<V> {
+pub struct KeyEntry<V> {
     fork: Box<Fork<V>>,
 }
 
-impl<V: Drop> Entry<V> {
+impl<V: Drop> KeyEntry<V> {
     /// The value of a key.
-    pub fn new(alloc: Global, key: Key, value: V) -> Result<Entry<V>, AllocError>
+    pub fn new(alloc: Global, key: Key, value: V) -> Result<KeyEntry<V>, AllocError>
         ensures key { IfOk result (λ e. entry_key e ≡ key) }
         ensures value { IfOk result (λ e. value_of e ≡ value) }
     {
@@ -33,7 +33,7 @@ impl<V: Drop> Entry<V> {
             ones: Tree::Empty,
         };
         match Box::new(alloc, fork) {
-            Ok(fork) => Ok(Entry { fork }),
+            Ok(fork) => Ok(KeyEntry { fork }),
             Err(_) => Err(AllocError),
         }
     }
@@ -55,7 +55,7 @@ impl<V: Drop> Index<V> {
     }
 
     /// Puts a value in, in place of the one that its key had.
-    pub fn put(&mut self, entry: Entry<V>)
+    pub fn put(&mut self, entry: KeyEntry<V>)
         ensures { (q : TheKey) → value_at self.new q ≡ either (latest_one entry q) (value_at self.old q) }
     {
         let mut fork = entry.fork;
@@ -67,7 +67,7 @@ impl<V: Drop> Index<V> {
 
     /// Puts values in, in order.
     #[tactic(auto, using(crate::proofs::Latest::latest_step))]
-    pub fn put_all(&mut self, entries: Vec<Entry<V>>)
+    pub fn put_all(&mut self, entries: Vec<KeyEntry<V>>)
         ensures { (q : TheKey) → value_at self.new q ≡ either (latest entries.items q) (value_at self.old q) }
     {
         for entry in entries {
@@ -79,7 +79,7 @@ impl<V: Drop> Index<V> {
 /// Appends an entry.
 #[tactic(auto, using(crate::proofs::Latest::latest_push))]
 pub fn push_entry<V: Drop>(
-    entries: &mut Vec<Entry<V>>,
+    entries: &mut Vec<KeyEntry<V>>,
     alloc: Global,
     key: Key,
     value: V,
@@ -87,7 +87,7 @@ pub fn push_entry<V: Drop>(
     ensures { IfOk result (λ _. (q : TheKey) →
         latest entries.new.items q ≡ either (if is_key key q then Some value else None) (latest entries.old.items q)) }
 {
-    let entry = Entry::new(alloc, key, value)?;
+    let entry = KeyEntry::new(alloc, key, value)?;
     entries.push(entry)?;
     Ok(())
 }

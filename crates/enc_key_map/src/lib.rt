@@ -5,5 +5,5 @@ mod index;
 mod key;
 mod tree;
 
-pub use index::{Entry, Index, push_entry};
+pub use index::{Index, KeyEntry, push_entry};
 pub use key::Key;

@@ -4,7 +4,7 @@ use Rattle.std.specs.Prelude.{◌&&◌, ◌||◌, ◌==◌, nat_le, slice_index_
 use Rattle.std.proofs.lemmas.Bool.Decides.{nat_tests}
 use Rattle.enc_objects.specs.declared.kind.Kind.{Kind}
 use Rattle.enc_sigs.specs.Grammar.{form_of, formed_in, elem_in, type_in, is_coded}
-use Rattle.enc_sigs.specs.declared.form.Form.TheVariants as form
+use Rattle.enc_sigs.specs.declared.type_form.TypeForm.TheVariants as form
 use Rattle.enc_sigs.specs.Reads.{element_front}
 use Rattle.std.proofs.Math.Seq.{take-length}
 use Rattle.enc_machine_types.specs.Alone.{is_one_byte}

@@ -143,7 +143,7 @@ fn no_kids(alloc: Global, table: u8) -> Result<Vec<Kids>, AllocError>
 }
 
 /// A row that begins with no children.
-fn childless(alloc: Global, table: u8, cells: Vec<Held>) -> Result<PlainRow, AllocError>
+fn row_of_cells(alloc: Global, table: u8, cells: Vec<Held>) -> Result<PlainRow, AllocError>
     ensures { IfOk result (λ r. r ≡ childless table cells.items) }
 {
     let kids = no_kids(alloc, table)?;
@@ -188,7 +188,7 @@ impl PlainTable {
             return Ok(());
         }
         if n == self.rows.len() {
-            let row = childless(alloc, table, cells)?;
+            let row = row_of_cells(alloc, table, cells)?;
             self.rows.push(row)?;
         }
         Ok(())

@@ -10,8 +10,9 @@ use Rattle.enc_merge.proofs.LastTwo.{chain_is}
 use Rattle.enc_ppdb.specs.PdbChain.{DebugDelta, PdbHistory, pdb_with}
 use Rattle.enc_ppdb.specs.Written.{most_pdb_weight}
 use Rattle.enc_reference_depth.specs.Depth.{first_deep}
+use Rattle.enc_chain.specs.Goes.{AllGo, GoesWith}
 use Rattle.enc_emit.specs.declared.delta_bytes.DeltaBytes.{DeltaBytes}
-use Rattle.enc_merge.specs.Merges.{AllGo, GoesWith, MergesBoth, MergesLast, weight_of_both}
+use Rattle.enc_merge.specs.Merges.{MergesBoth, MergesLast, weight_of_both}
 use Rattle.enc_merge.specs.Writing.{AreLast, Both, FilesOfBothStand, IsFilesOfBoth, TellsWeight, chain_of_both}
 use Rattle.enc_merge.specs.declared.fault.MergeFault.{MergeFault}
 use Rattle.enc_merge.specs.declared.fault.MergeFault.TheVariants.{Memory, TooLarge, Deep}
@@ -64,7 +65,7 @@ goes_both : (h : History) (p : PdbHistory) (x : Both) (second first : DebugDelta
 unfolding AllGo
 goes_both h p x second first older are go pd =
     let g : AllGo (x.second ∷ x.first ∷ drop 2 h.deltas) (second ∷ first ∷ older) = subst (λ ds. AllGo (x.second ∷ x.first ∷ drop 2 h.deltas) ds) pd (subst (λ ds. AllGo ds p.deltas) are.deltas go) in
-    (g.0, g.1.1.0)
+    (g.0, g.1.0)
 
 pub files_merged : (h : History) (p : PdbHistory) (x : Both) (d : DeltaBytes) → FilesOfBothStand → AreLast h x → AllGo h.deltas p.deltas
     → nat_lt most_pdb_weight (weight_of_both x.chain x.first x.second (pdb_with p.base p.deltas)) ≡ false → first_deep (chain_of_both x).plain ≡ None → IsFilesOfBoth x p d → MergesTwo x p (Ok d)

@@ -15,4 +15,4 @@ pub mod PointsWithin
 pub mod PdbStands
 pub mod FilesOfBoth
 pub mod LastMerged
-pub mod AcceptedGo
+pub mod ShortRead

@@ -31,7 +31,8 @@ use Rattle.enc_checker.specs.Check.{code_size, code_sizes, new_bodies, new_code,
 use Rattle.enc_merged_delta.specs.Merged.{SaysMerged, is_in_either, is_in_map}
 use Rattle.enc_merged_delta.proofs.Among.{lists}
 use Rattle.enc_merged_delta.proofs.BodiesSaid.{at_place}
-use Rattle.enc_merge.specs.Merges.{GoesWith, methods_listed}
+use Rattle.enc_chain.specs.Goes.{GoesWith}
+use Rattle.enc_merge.specs.Merges.{methods_listed}
 use Rattle.enc_merge.specs.Writing.{AreLast, Both, IsPdbOfBoth, chain_of_both, changes_debug, methods_changed}
 use Rattle.enc_merge.proofs.CodeOfBoth.{code_lasts, code_of_first, code_of_second}
 use Rattle.enc_merge.proofs.MethodsOfBoth.{both, filtered_twice, method_of_either, methods_after, row_of_def, rows_from, rows_rise}

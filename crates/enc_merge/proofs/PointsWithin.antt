@@ -23,7 +23,7 @@ use Rattle.enc_pdb_writer.proofs.Lists.{PassesAt, first_passes}
 use Rattle.enc_checker.specs.Check.{code_size, code_sizes, new_bodies, new_code, own_methods}
 use Rattle.enc_merged_delta.specs.Merged.{is_in_map}
 use Rattle.enc_merged_delta.proofs.Among.{lists, self}
-use Rattle.enc_merge.specs.Merges.{GoesWith, PdbGoes}
+use Rattle.enc_chain.specs.Goes.{GoesWith, PdbGoes}
 use Rattle.enc_merge.proofs.CodeOfBoth.{no_code}
 
 -- each point is below a size

@@ -17,10 +17,9 @@ use Rattle.enc_delta.specs.Rules.{counted, own_guid}
 use Rattle.enc_agg.specs.Extend.{chain_with, extended}
 use Rattle.enc_agg.specs.Seen.{History}
 use Rattle.enc_ppdb.specs.Fault.{named_tokens}
-use Rattle.enc_ppdb.specs.Misplaced.{first_misplaced}
 use Rattle.enc_ppdb.specs.PdbChain.{DebugDelta, PdbHistory, debug_at, pdb_changed, pdb_with}
 use Rattle.enc_ppdb.specs.Written.{IsNilOverSeveral, document_told, most_pdb_weight, pdb_weight}
-use Rattle.enc_checker.specs.Check.{Accepted, accepted, code_sizes, judged, new_bodies}
+use Rattle.enc_checker.specs.Check.{accepted, judged}
 use Rattle.enc_checker.specs.Within.{debug_of_accepted}
 use Rattle.enc_reference_depth.specs.Depth.{first_deep}
 use Rattle.enc_merged_delta.specs.Held.{il_merged, il_of, number_of_both}
@@ -47,11 +46,9 @@ HasNumbersOfBoth c a b s =
     → raw_in s (own_row s u) i ≡ number_of_both c a b u i column
 
 -- the files of a delta stand for two that follow a chain: they are accepted after it; the chain with them has the
--- module and the plain PDB of the chain with
--- both, and the EncId of the second; their EncMap lists exactly what one of the two lists; a method whose points
--- have several documents has Document nil. Their
--- heaps are those of the two joined, and so is their IL, the first one's filled to four; the log has the pairs of
--- the first and then of the second
+-- module and the plain PDB of the chain with both, and the EncId of the second; their EncMap lists exactly what one of
+-- the two lists; a method whose points have several documents has Document nil. Their heaps are those of the two
+-- joined, and so is their IL, the first one's filled to four; the log has the pairs of the first and then of the second
 pub record StandsForBoth (c : Chain) (a b : Source) (before after : PlainPdb) (d : DeltaBytes) : Type 0 where
   pub source : Source
   pub symbols : Source
@@ -87,30 +84,14 @@ MergesLast h p result =
     → p.deltas ≡ y ∷ x ∷ debugs
     → MergesBoth (chain_with h.base older) a b (pdb_with p.base debugs) (pdb_with p.base p.deltas) result
 
--- what is said of sequence points goes with a delta: the methods with new bodies are the delta's, and no row of its
--- PDB is out of place
-abbrev pub PdbGoes : Source → Option Source → Type 0
-PdbGoes d None = Unit {0}
-PdbGoes d (Some p) = first_misplaced p (code_sizes d) ≡ None
-
-pub record GoesWith (d : Source) (x : DebugDelta) : Type 0 where
-  pub changed : x.changed ≡ new_bodies d
-  pub pdb : PdbGoes d x.pdb
-
--- so it is of all, and each was read from files of at most 2^26 bytes
+-- the delta was read from files of at most 2^26 bytes; and so each of some was
 pub record IsShortDelta (d : Source) : Type 0 where
   pub stream : length d.stream ≤ 2 ^ 26
   pub code : length (il_of d) ≤ 2 ^ 26
 
-unfoldable pub AllGo : List Source → List DebugDelta → Type 0
-AllGo [] [] = Unit {0}
-AllGo (d ∷ deltas) (x ∷ debugs) = GoesWith d x × (IsShortDelta d × AllGo deltas debugs)
-AllGo _ _ = ⊥
-
--- an accepted delta goes with what its PDB says
-abbrev pub AcceptedGo : Type 0
-AcceptedGo = (c : Chain) (d : Result Source Refusal) (bytes : Option (List ℕ)) (a : Accepted) → judged c d bytes ≡ Ok a
-    → GoesWith a.delta (debug_of_accepted a)
+unfoldable pub AllShort : List Source → Type 0
+AllShort [] = Unit {0}
+AllShort (d ∷ deltas) = IsShortDelta d × AllShort deltas
 
 -- a delta that was read isn't longer than its files
 abbrev pub ReadIsShort : Type 0

@@ -31,7 +31,8 @@ use Rattle.enc_ppdb.specs.Written.{most_pdb_weight}
 use Rattle.enc_pdb_writer.specs.Methods.{SaysMethods}
 use Rattle.enc_checker.specs.Check.{new_code}
 use Rattle.enc_emit.specs.declared.delta_bytes.DeltaBytes.{DeltaBytes}
-use Rattle.enc_merge.specs.Merges.{GoesWith, HasNumbersOfBoth, StandsForBoth, methods_listed}
+use Rattle.enc_chain.specs.Goes.{GoesWith}
+use Rattle.enc_merge.specs.Merges.{HasNumbersOfBoth, StandsForBoth, methods_listed}
 use Rattle.enc_merge.specs.Points.{debug_of_rows}
 use Rattle.enc_merge.specs.declared.fault.MergeFault.{MergeFault}
 use Rattle.enc_merge.specs.declared.fault.MergeFault.TheVariants.{Memory, TooLarge, Deep}

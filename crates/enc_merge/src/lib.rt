@@ -15,5 +15,5 @@ mod points;
 mod rows;
 
 pub use fault::MergeFault;
-pub use laws::goes_law;
+pub use laws::short_law;
 pub use merge::merge_last;

@@ -4,7 +4,8 @@ ghost use Rattle.enc_agg.specs.Seen.{chain_of_all};
 ghost use Rattle.enc_reference_depth.specs.Depth.{IsShallow};
 ghost use Rattle.enc_ppdb.specs.PdbChain.{pdb_with};
 ghost use Rattle.enc_ppdb.specs.Written.{most_pdb_weight};
-ghost use Rattle.enc_merge.specs.Merges.{AllGo, MergesLast, ShortLast, methods_listed, weight_of_both};
+ghost use Rattle.enc_chain.specs.Goes.{AllGo};
+ghost use Rattle.enc_merge.specs.Merges.{MergesLast, ShortLast, methods_listed, weight_of_both};
 ghost use Rattle.enc_merge.specs.Writing.{AreOfEither, FilesOfBothStand, IsFilesOfBoth, chain_of_both};
 
 use crate::fault::MergeFault;

@@ -4,7 +4,7 @@ ghost use Rattle.enc_base.specs.declared.token.Token.{Token as TheToken};
 ghost use Rattle.enc_plain.specs.SoundDebug.{IsSoundPdb};
 ghost use Rattle.enc_ppdb.specs.PdbChain.{pdb_with};
 ghost use Rattle.enc_ppdb.specs.Written.{most_pdb_weight};
-ghost use Rattle.enc_merge.specs.Merges.{methods_listed, weight_of_both, AllGo};
+ghost use Rattle.enc_merge.specs.Merges.{methods_listed, weight_of_both};
 ghost use Rattle.enc_merge.specs.Writing.{IsPdbOfBoth, TellsWeight, changes_debug};
 
 use crate::fault::MergeFault;

@@ -8,8 +8,8 @@ use Rattle.std.proofs.lemmas.List.Folds.{list_all-append}
 use Rattle.enc_base.specs.Numbers.{spelled, is_empty}
 use Rattle.enc_meta.specs.Built.{is_kept, mark_of, joined_end, passes}
 use Rattle.enc_meta.specs.Pools.{encoded, limit_of, is_fit, value_is_good, IsTied}
-use Rattle.enc_meta.specs.declared.form.Form.{Form}
-use Rattle.enc_meta.specs.declared.form.Form.TheVariants.{Text, User, Blob}
+use Rattle.enc_meta.specs.declared.heap_form.HeapForm.{HeapForm}
+use Rattle.enc_meta.specs.declared.heap_form.HeapForm.TheVariants.{Text, User, Blob}
 use Rattle.enc_meta.proofs.Places.{placed_more, seen_more, not_empty}
 
 -- the end with one more value
@@ -27,7 +27,7 @@ unfolding passes
 passes_kept encode limit start values v kept = rw kept refl
 
 -- a value that doesn't pass the limit has a length that can be spelled
-fit_is_good : (form : Form) (end : ℕ) (v : List ℕ) → is_empty v ≡ false → IsTrue (is_fit form v) → 0 < end → end + length (encoded form v) ≤ limit_of form → IsTrue (value_is_good form v)
+fit_is_good : (form : HeapForm) (end : ℕ) (v : List ℕ) → is_empty v ≡ false → IsTrue (is_fit form v) → 0 < end → end + length (encoded form v) ≤ limit_of form → IsTrue (value_is_good form v)
 fit_is_good Text end v full fit some within = rw (full, fit) refl
 fit_is_good User end v full fit some within =
     let e = length-append (spelled (length (v ++ mark_of v ∷ []))) (v ++ mark_of v ∷ []) in
@@ -40,12 +40,12 @@ fit_is_good Blob end v full fit some within =
     grind (arith, nat_tests, few)
 
 -- no value
-pub tied_none : {K : Type 0} (seen : K → List ℕ) (form : Form) (start : ℕ) (entries : List (K × ℕ)) → entries ≡ [] → IsTied seen form start (start + 1) entries
+pub tied_none : {K : Type 0} (seen : K → List ℕ) (form : HeapForm) (start : ℕ) (entries : List (K × ℕ)) → entries ≡ [] → IsTied seen form start (start + 1) entries
 unfolding joined_end
 tied_none seen form start entries none = rw none (record { placed = tt; ends = omega arith; within = omega arith; good = refl })
 
 -- one more value
-pub tied_more : {K : Type 0} (seen : K → List ℕ) (form : Form) (start end : ℕ) (entries : List (K × ℕ)) (k : K) (v : List ℕ) → IsTied seen form start end entries → seen k ≡ v → end + length (encoded form v) ≤ limit_of form → is_kept (map seen (keys_of entries)) v ≡ false → IsTrue (is_fit form v) → IsTied seen form start (end + length (encoded form v)) (entries ++ (k, end) ∷ [])
+pub tied_more : {K : Type 0} (seen : K → List ℕ) (form : HeapForm) (start end : ℕ) (entries : List (K × ℕ)) (k : K) (v : List ℕ) → IsTied seen form start end entries → seen k ≡ v → end + length (encoded form v) ≤ limit_of form → is_kept (map seen (keys_of entries)) v ≡ false → IsTrue (is_fit form v) → IsTied seen form start (end + length (encoded form v)) (entries ++ (k, end) ∷ [])
 unfolding joined_end
 tied_more seen form start end entries k v tied is within new fit =
     let values = map seen (keys_of entries) in
@@ -59,7 +59,7 @@ tied_more seen form start end entries k v tied is within new fit =
     }
 
 -- a limit is at most 2^29
-pub limit_few : (form : Form) → limit_of form ≤ 2 ^ 29
+pub limit_few : (form : HeapForm) → limit_of form ≤ 2 ^ 29
 limit_few Text = omega arith
 limit_few User = omega arith
 limit_few Blob = omega arith

@@ -6,41 +6,41 @@ use Rattle.enc_base.specs.declared.refusal.StreamName.{StreamName}
 use Rattle.enc_base.specs.declared.refusal.StreamName.TheVariants.{Strings, Users, Blobs}
 use Rattle.enc_base.specs.Numbers.{is_empty}
 use Rattle.enc_meta.specs.Built.{text_bytes, user_bytes, blob_bytes, joined_end, with_value, offset_in, passes, with_entry}
-use Rattle.enc_meta.specs.declared.form.Form.{Form}
-use Rattle.enc_meta.specs.declared.form.Form.TheVariants.{Text, User, Blob}
+use Rattle.enc_meta.specs.declared.heap_form.HeapForm.{HeapForm}
+use Rattle.enc_meta.specs.declared.heap_form.HeapForm.TheVariants.{Text, User, Blob}
 
 -- a value's bytes in a heap of this form
-abbrev pub encoded : Form → List ℕ → List ℕ
+abbrev pub encoded : HeapForm → List ℕ → List ℕ
 encoded Text = text_bytes
 encoded User = user_bytes
 encoded Blob = blob_bytes
 
 -- how long the joined heap may be
-abbrev pub limit_of : Form → ℕ
+abbrev pub limit_of : HeapForm → ℕ
 limit_of Text = 2 ^ 29
 limit_of User = 2 ^ 24
 limit_of Blob = 2 ^ 29
 
-abbrev pub stream_name_of : Form → StreamName
+abbrev pub stream_name_of : HeapForm → StreamName
 stream_name_of Text = Strings
 stream_name_of User = Users
 stream_name_of Blob = Blobs
 
 -- a value may be asked for: a text has no zero, and units are of two bytes
-abbrev pub is_fit : Form → List ℕ → Bool
+abbrev pub is_fit : HeapForm → List ℕ → Bool
 is_fit Text v = not (list_any (λ c. c == 0) v)
 is_fit User v = length v % 2 == 0
 is_fit Blob v = true
 
 -- and it isn't empty where it is a text, and its length can be spelled
-abbrev pub value_is_good : Form → List ℕ → Bool
+abbrev pub value_is_good : HeapForm → List ℕ → Bool
 value_is_good Text v = not (is_empty v) && not (list_any (λ c. c == 0) v)
 value_is_good User v = length v % 2 == 0 && nat_lt (length v + 1) (2 ^ 29)
 value_is_good Blob v = nat_lt (length v) (2 ^ 29)
 
 -- where a heap begins in the joined one, and its values in the order of their first use
 pub record Pooled : Type 0 where
-  pub form : Form
+  pub form : HeapForm
   pub start : ℕ
   pub values : List (List ℕ)
 
@@ -61,7 +61,8 @@ ArePlaced seen encode at [] = Unit {0}
 ArePlaced seen encode at (e ∷ rest) = (e.1 ≡ at) × ArePlaced seen encode (at + length (encode (seen e.0))) rest
 
 -- the places and the end are those of the values, of which all are good, and the joined heap is within its limit
-pub record IsTied {K : Type 0} (seen : K → List ℕ) (form : Form) (start end : ℕ) (entries : List (K × ℕ)) : Type 0 where
+pub record IsTied {K : Type 0} (seen : K → List ℕ) (form : HeapForm)
+    (start end : ℕ) (entries : List (K × ℕ)) : Type 0 where
   pub placed : ArePlaced seen (encoded form) (start + 1) entries
   pub ends : end ≡ joined_end (encoded form) start (map seen (keys_of entries))
   pub within : end ≤ max (limit_of form) (start + 1)

@@ -6,8 +6,8 @@ ghost use Rattle.enc_meta.specs.Built.{AreWithinLimits, none_from, unit_bytes, w
 ghost use Rattle.enc_meta.specs.BuiltLaws.{IsGood};
 ghost use Rattle.enc_meta.specs.BuiltSeen.{RefusesWhere, heap_bytes_seen};
 
-use crate::form::Form;
 use crate::guids::Guids;
+use crate::heap_form::HeapForm;
 use crate::heaps::HeapLengths;
 use crate::pool::Pool;
 use enc_base::{Bytes, StreamName};
@@ -98,9 +98,9 @@ impl HeapBuilder {
         ensures { IfOk result (λ b. b ≡ none_from starts) }
     {
         Ok(HeapBuilder {
-            texts: Pool::begin(alloc, Form::Text, starts.strings),
-            users: Pool::begin(alloc, Form::User, starts.users),
-            blobs: Pool::begin(alloc, Form::Blob, starts.blobs),
+            texts: Pool::begin(alloc, HeapForm::Text, starts.strings),
+            users: Pool::begin(alloc, HeapForm::User, starts.users),
+            blobs: Pool::begin(alloc, HeapForm::Blob, starts.blobs),
             guids: Guids::begin(alloc, starts.guids),
         })
     }

@@ -4,10 +4,10 @@
 mod builder;
 mod ends;
 mod entry;
-mod form;
 mod guids;
 mod header;
 mod heap;
+mod heap_form;
 mod heaps;
 mod laws;
 mod pool;

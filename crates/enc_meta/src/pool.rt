@@ -6,7 +6,7 @@ ghost use Rattle.enc_meta.specs.BuiltSeen.{RefusesWhere};
 ghost use Rattle.enc_meta.specs.Pools.{encoded, limit_of, stream_name_of, is_fit, value_is_good, with_pooled, pooled_offset, pooled_passes};
 
 use crate::builder::BuildFault;
-use crate::form::Form;
+use crate::heap_form::HeapForm;
 use enc_base::Bytes;
 use indexmap::IndexMap;
 use std::alloc::{AllocError, Global};
@@ -15,7 +15,7 @@ use std::marker::Model;
 /// The values of one heap with their offsets in the joined heap.
 #[derive(Drop)]
 pub struct Pool {
-    form: Form,
+    form: HeapForm,
     start: u32,
     // the offset behind the last value
     end: u64,
@@ -45,7 +45,7 @@ fn word_law(n: u32)
 
 impl Pool {
     /// No value, in a heap that begins at a joined offset.
-    pub fn begin(alloc: Global, form: Form, start: u32) -> Pool
+    pub fn begin(alloc: Global, form: HeapForm, start: u32) -> Pool
         ensures { result ≡ record { form = form; start = start; values = [] } }
     {
         Pool {
@@ -145,7 +145,7 @@ impl Pool {
 }
 
 /// The bytes of a zero and of these values.
-fn heap_of(alloc: Global, form: Form, values: &[Vec<u8>]) -> Result<Vec<u8>, AllocError>
+fn heap_of(alloc: Global, form: HeapForm, values: &[Vec<u8>]) -> Result<Vec<u8>, AllocError>
     requires { IsTrue (list_all (value_is_good form) (map (λ v. v.items) values.now)) }
     ensures { IfOk result (λ b. b.items ≡ heap_bytes (encoded form) (map (λ v. v.items) values.now)) }
 {

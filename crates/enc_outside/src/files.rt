@@ -183,16 +183,20 @@ struct FileRead {
 
 fn read_file<R: Files + AllocGlobal>(rt: &R, name: &str) -> io::Result<FileRead> {
     let opened = File::open(rt, name)?;
-    let file = opened.metadata().ok().map(|metadata| FileId::of(&metadata));
-    let bytes = read_front(rt.alloc(), opened)?;
+    let metadata = opened.metadata().ok();
+    let size = metadata.as_ref().map_or(0, |metadata| metadata.len());
+    let file = metadata.map(|metadata| FileId::of(&metadata));
+    let bytes = read_front(rt.alloc(), opened, size)?;
     Ok(FileRead { bytes, file })
 }
 
-/// The reader's bytes, cut off one byte past the limit.
-fn read_front<I: Read + Drop>(alloc: Global, reader: I) -> io::Result<Vec<u8>>
+/// The reader's bytes, cut off one byte past the limit. There is room for as many as the system says before the first is
+/// read; there may be more or fewer.
+fn read_front<I: Read + Drop>(alloc: Global, reader: I, size: u64) -> io::Result<Vec<u8>>
     ensures { IfOk result (λ v. IfSome (I.remaining reader) (λ bytes. v.items ≡ take (LIMIT + 1) bytes)) }
 {
     let mut bytes = Vec::new(alloc);
+    bytes.reserve(size.min(LIMIT) as usize + 1)?;
     reader.take(LIMIT + 1).read_to_end(&mut bytes)?;
     Ok(bytes)
 }

@@ -58,7 +58,7 @@ fn push_edit(
 }
 
 /// The edits with points, in the order of the list.
-fn with_points(
+fn edits_with_points(
     alloc: Global,
     edits: &[Edit],
     methods: &[Token],
@@ -92,6 +92,6 @@ pub(crate) fn by_rows(
     requires methods { AreMethods methods.now edits.now }
     ensures { IfOk result (λ placed. AreByRows methods.now edits.now placed.items) }
 {
-    let placed = with_points(alloc, edits, methods)?;
+    let placed = edits_with_points(alloc, edits, methods)?;
     Ok(sorted(placed))
 }

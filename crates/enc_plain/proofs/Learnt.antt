@@ -4,7 +4,7 @@ use Rattle.std.specs.Prelude.{◌&&◌, ◌==◌, if◌then◌else◌, unwrap_or
 use Rattle.std.proofs.lemmas.Bool.{eqb-true}
 use Rattle.enc_base.specs.declared.token.Token.{Token}
 use Rattle.enc_key_map.specs.declared.index.Index.{Index}
-use Rattle.enc_key_map.specs.declared.index.Entry.{Entry}
+use Rattle.enc_key_map.specs.declared.index.KeyEntry.{KeyEntry}
 use Rattle.enc_key_map.specs.declared.key.Key.{Key}
 use Rattle.enc_key_map.specs.Key.{is_key}
 use Rattle.enc_key_map.specs.Index.{value_at, entry_key, value_of, latest_one, either}
@@ -30,7 +30,7 @@ by_test mix q key v k old true is here there e =
     let row = eqb-true key.row q.row (both_right (key.table == q.table) (key.row == q.row) both) in
     sym (ap (λ (o : Option Mix). unwrap_or o v) e) ∙ here ∙ ap mix (ap with_table table ∙ ap with_row row)
 
-more_given : (mix : Token → Mix) (old new : Index Mix) (e : Entry Mix) (t : Token) (v : Mix) → AreMixes mix old → v ≡ mix t → entry_key e ≡ record { table = t.table; row = t.row; place = 0 } → value_of e ≡ v → ((q : Key) → value_at new q ≡ either (latest_one e q) (value_at old q)) → AreMixes mix new
+more_given : (mix : Token → Mix) (old new : Index Mix) (e : KeyEntry Mix) (t : Token) (v : Mix) → AreMixes mix old → v ≡ mix t → entry_key e ≡ record { table = t.table; row = t.row; place = 0 } → value_of e ≡ v → ((q : Key) → value_at new q ≡ either (latest_one e q) (value_at old q)) → AreMixes mix new
 more_given mix old new e t v kept key place value puts q k is =
     let here : value_of e ≡ mix (record { table = (entry_key e).table; row = (entry_key e).row }) = value ∙ key ∙ sym (ap (λ (p : Key). mix (record { table = p.table; row = p.row })) place) in
     by_test mix q (entry_key e) (value_of e) k (value_at old q) (is_key (entry_key e) q) refl here (kept q k) (sym (puts q) ∙ is)
@@ -41,10 +41,10 @@ none_learnt rows index none = none_given (key_of rows) index none
 pub no_names : (rows : Rows) (index : Index Mix) → ((q : Key) → value_at index q ≡ None) → AreNames rows index
 no_names rows index none = none_given (names_key rows) index none
 
-pub more_learnt : (rows : Rows) (old new : Index Mix) (e : Entry Mix) (t : Token) (v : Mix) → AreKeys rows old → v ≡ key_of rows t → entry_key e ≡ record { table = t.table; row = t.row; place = 0 } → value_of e ≡ v → ((q : Key) → value_at new q ≡ either (latest_one e q) (value_at old q)) → AreKeys rows new
+pub more_learnt : (rows : Rows) (old new : Index Mix) (e : KeyEntry Mix) (t : Token) (v : Mix) → AreKeys rows old → v ≡ key_of rows t → entry_key e ≡ record { table = t.table; row = t.row; place = 0 } → value_of e ≡ v → ((q : Key) → value_at new q ≡ either (latest_one e q) (value_at old q)) → AreKeys rows new
 more_learnt rows old new e t v kept key place value puts = more_given (key_of rows) old new e t v kept key place value puts
 
-pub more_names : (rows : Rows) (old new : Index Mix) (e : Entry Mix) (t : Token) (v : Mix) → AreNames rows old → v ≡ names_key rows t → entry_key e ≡ record { table = t.table; row = t.row; place = 0 } → value_of e ≡ v → ((q : Key) → value_at new q ≡ either (latest_one e q) (value_at old q)) → AreNames rows new
+pub more_names : (rows : Rows) (old new : Index Mix) (e : KeyEntry Mix) (t : Token) (v : Mix) → AreNames rows old → v ≡ names_key rows t → entry_key e ≡ record { table = t.table; row = t.row; place = 0 } → value_of e ≡ v → ((q : Key) → value_at new q ≡ either (latest_one e q) (value_at old q)) → AreNames rows new
 more_names rows old new e t v kept key place value puts = more_given (names_key rows) old new e t v kept key place value puts
 
 none_placed : {K : Type 0} (key : ℕ → List ℕ → K) (stored : ℕ → Option (List ℕ)) (index : Index K) → ((q : Key) → value_at index q ≡ None) → AreOfBlobs key stored index
@@ -67,7 +67,7 @@ place_test {K} of stored q key here blob v k old true is stands v_is there rest 
     let same = same_blob here blob (sym stands ∙ ap stored one ∙ there) in
     sym (ap (λ (o : Option K). unwrap_or o v) e) ∙ v_is ∙ ap (λ n. of n here) table ∙ ap (of q.table) same
 
-more_placed : {K : Type 0} (of : ℕ → List ℕ → K) (stored : ℕ → Option (List ℕ)) (old new : Index K) (e : Entry K) (at : Key) (here : List ℕ) (v : K) → AreOfBlobs of stored old → stored (at.place * 2 ^ 32 + at.row) ≡ Some here → v ≡ of at.table here → entry_key e ≡ at → value_of e ≡ v → ((q : Key) → value_at new q ≡ either (latest_one e q) (value_at old q)) → AreOfBlobs of stored new
+more_placed : {K : Type 0} (of : ℕ → List ℕ → K) (stored : ℕ → Option (List ℕ)) (old new : Index K) (e : KeyEntry K) (at : Key) (here : List ℕ) (v : K) → AreOfBlobs of stored old → stored (at.place * 2 ^ 32 + at.row) ≡ Some here → v ≡ of at.table here → entry_key e ≡ at → value_of e ≡ v → ((q : Key) → value_at new q ≡ either (latest_one e q) (value_at old q)) → AreOfBlobs of stored new
 more_placed of stored old new e at here v kept stands key place value puts q k blob is there =
     let stands_e : stored ((entry_key e).place * 2 ^ 32 + (entry_key e).row) ≡ Some here = ap (λ (p : Key). stored (p.place * 2 ^ 32 + p.row)) place ∙ stands in
     let key_e : value_of e ≡ of (entry_key e).table here = value ∙ key ∙ sym (ap (λ (p : Key). of p.table here) place) in
@@ -79,10 +79,10 @@ no_signature rows stored index none = none_placed (signature_key rows) stored in
 pub no_shape : (rows : Rows) (stored : ℕ → Option (List ℕ)) (index : Index Mix) → ((q : Key) → value_at index q ≡ None) → AreSpecShapes rows stored index
 no_shape rows stored index none = none_placed (λ (table : ℕ). spec_shape rows) stored index none
 
-pub more_signatures : (rows : Rows) (stored : ℕ → Option (List ℕ)) (old new : Index ℕ) (e : Entry ℕ) (at : Key) (here : List ℕ) (v : ℕ) → AreSignatureKeys rows stored old → stored (at.place * 2 ^ 32 + at.row) ≡ Some here → v ≡ signature_key rows at.table here → entry_key e ≡ at → value_of e ≡ v → ((q : Key) → value_at new q ≡ either (latest_one e q) (value_at old q)) → AreSignatureKeys rows stored new
+pub more_signatures : (rows : Rows) (stored : ℕ → Option (List ℕ)) (old new : Index ℕ) (e : KeyEntry ℕ) (at : Key) (here : List ℕ) (v : ℕ) → AreSignatureKeys rows stored old → stored (at.place * 2 ^ 32 + at.row) ≡ Some here → v ≡ signature_key rows at.table here → entry_key e ≡ at → value_of e ≡ v → ((q : Key) → value_at new q ≡ either (latest_one e q) (value_at old q)) → AreSignatureKeys rows stored new
 more_signatures rows stored old new e at here v kept stands key place value puts = more_placed (signature_key rows) stored old new e at here v kept stands key place value puts
 
-pub more_shapes : (rows : Rows) (stored : ℕ → Option (List ℕ)) (old new : Index Mix) (e : Entry Mix) (at : Key) (here : List ℕ) (v : Mix) → AreSpecShapes rows stored old → stored (at.place * 2 ^ 32 + at.row) ≡ Some here → v ≡ spec_shape rows here → entry_key e ≡ at → value_of e ≡ v → ((q : Key) → value_at new q ≡ either (latest_one e q) (value_at old q)) → AreSpecShapes rows stored new
+pub more_shapes : (rows : Rows) (stored : ℕ → Option (List ℕ)) (old new : Index Mix) (e : KeyEntry Mix) (at : Key) (here : List ℕ) (v : Mix) → AreSpecShapes rows stored old → stored (at.place * 2 ^ 32 + at.row) ≡ Some here → v ≡ spec_shape rows here → entry_key e ≡ at → value_of e ≡ v → ((q : Key) → value_at new q ≡ either (latest_one e q) (value_at old q)) → AreSpecShapes rows stored new
 more_shapes rows stored old new e at here v kept stands key place value puts = more_placed (λ (table : ℕ). spec_shape rows) stored old new e at here v kept stands key place value puts
 
 -- keys within a TypeSpec

@@ -12,7 +12,7 @@ use crate::known::spec_place;
 use crate::signature::kind_in_table;
 use enc_base::Token;
 use enc_base::tables::{ASSEMBLY_REF, MODULE_REF, TYPE_REF, TYPE_SPEC};
-use enc_key_map::{Entry, Index, Key};
+use enc_key_map::{Index, Key, KeyEntry};
 use enc_sigs::{Mix, SigKind, coded_token, finished, mix_of, mixed_both, sig_shape};
 use std::alloc::{AllocError, Global};
 use std::marker::Model;
@@ -218,7 +218,7 @@ impl<'a, R: CellView> RefKeys<'a, R> {
         requires { key ≡ key_of (R.rows self.old) token }
         ensures { self.new ≡ self.old }
     {
-        let entry = Entry::new(alloc, place_of(token), key)?;
+        let entry = KeyEntry::new(alloc, place_of(token), key)?;
         self.index.put(entry);
         Ok(())
     }
@@ -233,7 +233,7 @@ impl<'a, R: CellView> RefKeys<'a, R> {
             return Ok(());
         }
         let key = names_key(self.rows, token);
-        let entry = Entry::new(alloc, place_of(token), key)?;
+        let entry = KeyEntry::new(alloc, place_of(token), key)?;
         self.names.put(entry);
         Ok(())
     }
@@ -286,7 +286,7 @@ impl<'a, R: CellView> RefKeys<'a, R> {
         ensures { self.new ≡ self.old }
     {
         let shape = self.spec_shape(blob);
-        let entry = Entry::new(alloc, at, shape)?;
+        let entry = KeyEntry::new(alloc, at, shape)?;
         self.specs.put(entry);
         Ok(())
     }
@@ -368,7 +368,7 @@ impl<'a, R: CellView> RefKeys<'a, R> {
         ensures { self.new ≡ self.old }
     {
         let key = self.signature_key(at.table, blob);
-        let entry = Entry::new(alloc, at, key)?;
+        let entry = KeyEntry::new(alloc, at, key)?;
         self.signatures.put(entry);
         Ok(())
     }

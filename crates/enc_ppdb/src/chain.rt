@@ -8,7 +8,7 @@ ghost use Rattle.enc_ppdb.specs.PlacedAt.{file_number};
 ghost use Rattle.enc_ppdb.specs.Told.{every_told, AreToldBy};
 ghost use Rattle.enc_generation_map.specs.Places.{KeepsPlaces};
 
-use crate::known::{Known, document_at, points_at};
+use crate::debug_row::{DebugRow, document_at, points_at};
 use crate::methods::MethodList;
 use crate::pdb::{Pdb, PdbDelta};
 use crate::told::told;
@@ -61,7 +61,7 @@ impl Model for PdbChain {
 }
 
 /// Where the PDB of a base has a method.
-fn in_base(base: &Option<Pdb>, method: Token) -> Option<Known<'_>>
+fn in_base(base: &Option<Pdb>, method: Token) -> Option<DebugRow<'_>>
     ensures { result ≡ base_row base.now method }
 {
     base.as_ref()?.known(method)
@@ -69,7 +69,7 @@ fn in_base(base: &Option<Pdb>, method: Token) -> Option<Known<'_>>
 
 impl Said {
     /// Where the PDB of the delta has a method.
-    fn known(&self, method: Token) -> Option<Known<'_>>
+    fn known(&self, method: Token) -> Option<DebugRow<'_>>
         ensures { result ≡ delta_row self.now.pdb method }
     {
         self.pdb.as_ref()?.known(method)
@@ -92,7 +92,7 @@ fn known<'a>(
     added: &'a [Said],
     places: &Places,
     method: Token,
-) -> Option<Known<'a>>
+) -> Option<DebugRow<'a>>
     requires { KeepsPlaces (every_told (reverse added.now)) (length (reverse added.now)) places.now }
     ensures { result ≡ known_at base.now (reverse added.now) method }
 {

@@ -3,11 +3,11 @@
 #![tactic(auto)]
 
 mod chain;
+mod debug_row;
 mod ends;
 mod fault;
 mod file;
 mod hash;
-mod known;
 mod laws;
 mod methods;
 mod misplaced;

@@ -10,10 +10,10 @@ ghost use Rattle.enc_ppdb.specs.Sound.{KeepsSound};
 ghost use Rattle.enc_ppdb.specs.Told.{method_named_by};
 ghost use Rattle.enc_base.specs.declared.token.Token.{Token as TheToken};
 
+use crate::debug_row::DebugRow;
 use crate::ends::ends_of;
 use crate::fault::{documents_fault, fits_methods, nth_row, points_of, refused, row_fault};
 use crate::file::File;
-use crate::known::Known;
 use crate::methods::MethodList;
 use crate::misplaced::{debug_token, is_past_end, lesser};
 use crate::named::named_of;
@@ -93,7 +93,7 @@ impl Pdb {
 
     /// The row of a method: its own, None where MethodDebugInformation has none.
     #[tactic(auto, unfolding(crate::specs::PdbChain::row_of_method))]
-    pub(crate) fn known(&self, method: Token) -> Option<Known<'_>>
+    pub(crate) fn known(&self, method: Token) -> Option<DebugRow<'_>>
         ensures { result ≡ row_in_file self.now (row_of_method self.now method) }
     {
         if method.table != METHOD_DEF
@@ -106,7 +106,7 @@ impl Pdb {
             table: METHOD_DEBUG_INFORMATION,
             row: method.row,
         };
-        Some(Known::at(&self.file, row))
+        Some(DebugRow::at(&self.file, row))
     }
 }
 
@@ -177,11 +177,11 @@ impl PdbDelta {
     }
 
     /// The same, with the file.
-    pub(crate) fn known(&self, method: Token) -> Option<Known<'_>>
+    pub(crate) fn known(&self, method: Token) -> Option<DebugRow<'_>>
         ensures { result ≡ row_in_file self.now (row_for self.now method) }
     {
         let row = self.row_for(method)?;
-        Some(Known::at(&self.file, row))
+        Some(DebugRow::at(&self.file, row))
     }
 
     /// The local signature row and the points of a method by its token, None exactly where EncMap has

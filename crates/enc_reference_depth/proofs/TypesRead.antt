@@ -6,10 +6,10 @@ use Rattle.enc_base.specs.Readers.{Reader, giving, both, number_in}
 use Rattle.enc_base.specs.declared.token.Token.{Token}
 use Rattle.enc_sigs.specs.declared.kind.SigKind.{SigKind}
 use Rattle.enc_sigs.specs.declared.kind.SigKind.TheVariants.{Method, Field, Locals, Property, TypeSpec, MethodSpec}
-use Rattle.enc_sigs.specs.declared.form.Form.{Form}
-use Rattle.enc_sigs.specs.declared.form.Form.TheVariants as form
-use Rattle.enc_sigs.specs.declared.form.Numeral.{Numeral}
-use Rattle.enc_sigs.specs.declared.form.Numeral.TheVariants.{Size, Bound}
+use Rattle.enc_sigs.specs.declared.type_form.TypeForm.{TypeForm}
+use Rattle.enc_sigs.specs.declared.type_form.TypeForm.TheVariants as form
+use Rattle.enc_sigs.specs.declared.type_form.Numeral.{Numeral}
+use Rattle.enc_sigs.specs.declared.type_form.Numeral.TheVariants.{Size, Bound}
 use Rattle.enc_sigs.specs.Tree.{Forest, none, more, Tree, SigTree, forest_of}
 use Rattle.enc_sigs.specs.Grammar.{upon, many, list_in, byte_in, token_in, token_named, tree, form_of, wrapped_in, named_in, modified_in, numbered_in, numeral_in, numerals_in, array_in, instance_in, begins, more_in, marked_in, params, calling_in, parts_in, method_in, pointer_in, formed_in, elem_in, type_in, accessed_in, front_in, sig_in}
 use Rattle.enc_sigs.proofs.Agreed.{map_known, both_known}
@@ -235,7 +235,7 @@ module _ (K : Token → Forest → Type 0) (good : ℕ → Bool) (at : (t : Toke
       let f : (tree b nil 0 [], bytes) ≡ p = cc in
       subst (λ (q : Tree × List ℕ). TreeIs K q.0) f (tree_is b nil 0 [] (is_nil refl) (omega arith) no_trees)
 
-  formed_reads : (r : Reader Tree) (f : Form) (b : ℕ) → Reading (TreeIs K) r → Reading (TreeIs K) (formed_in good r f b)
+  formed_reads : (r : Reader Tree) (f : TypeForm) (b : ℕ) → Reading (TreeIs K) r → Reading (TreeIs K) (formed_in good r f b)
   unfolding formed_in
   formed_reads r form.Bare b each = bare_reads b
   formed_reads r form.Wrapped b each = wrapped_reads r b each
@@ -246,8 +246,8 @@ module _ (K : Token → Forest → Type 0) (good : ℕ → Bool) (at : (t : Toke
   formed_reads r form.Instance b each = instance_reads r b each
   formed_reads r form.Pointer b each = pointer_reads r b each
 
-  opened_reads : (r : Reader Tree) (o : Option Form) (b : ℕ) (rest : List ℕ) (p : Tree × List ℕ) → Reading (TreeIs K) r
-      → option_and_then {T = Form} (λ f. formed_in good r f b rest) o ≡ Some p → TreeIs K p.0
+  opened_reads : (r : Reader Tree) (o : Option TypeForm) (b : ℕ) (rest : List ℕ) (p : Tree × List ℕ) → Reading (TreeIs K) r
+      → option_and_then {T = TypeForm} (λ f. formed_in good r f b rest) o ≡ Some p → TreeIs K p.0
   opened_reads r None b rest p each e = absurd cc
   opened_reads r (Some f) b rest p each e = formed_reads r f b each rest p e
 

@@ -42,27 +42,27 @@ fn push_edge(place: u32, token: Token, edges: &mut Vec<Edge>) -> Result<(), Allo
 }
 
 /// Adds the tokens of a type and of those in it.
-fn push_elem(place: u32, elem: &Elem, edges: &mut Vec<Edge>) -> Result<(), AllocError>
+fn push_type_edges(place: u32, elem: &Elem, edges: &mut Vec<Edge>) -> Result<(), AllocError>
     requires few { AreFew (forest_of (elem.now ∷ [])) }
     ensures { IfOk result (λ _. edges.new.items ≡ edges.old.items ++ edges_in place (forest_of (elem.now ∷ []))) }
 {
     push_edge(place, elem.token, edges)?;
     let mut i = 0;
     while let Some(kid) = elem.kid(i) {
-        push_elem(place, kid, edges)?;
+        push_type_edges(place, kid, edges)?;
         i += 1;
     }
     Ok(())
 }
 
 /// Adds the tokens of a signature.
-fn push_sig(place: u32, sig: &Sig, edges: &mut Vec<Edge>) -> Result<(), AllocError>
+fn push_signature_edges(place: u32, sig: &Sig, edges: &mut Vec<Edge>) -> Result<(), AllocError>
     requires few { AreFew (forest_of sig.now.parts) }
     ensures { IfOk result (λ _. edges.new.items ≡ edges.old.items ++ edges_in place (forest_of sig.now.parts)) }
 {
     for i in 0..sig.count() {
         match sig.part(i) {
-            Some(part) => push_elem(place, part, edges)?,
+            Some(part) => push_type_edges(place, part, edges)?,
             None => unreachable!(),
         }
     }
@@ -133,7 +133,7 @@ pub(crate) fn all_edges<V: ModuleView>(alloc: Global, view: &V) -> Result<Vec<Ed
             row: n + 1,
         };
         let sig = spec_sig(alloc, view, row, &counts)?;
-        push_sig(refs + n, &sig, &mut edges)?;
+        push_signature_edges(refs + n, &sig, &mut edges)?;
     }
     Ok(edges)
 }

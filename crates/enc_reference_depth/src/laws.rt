@@ -2,7 +2,7 @@
 ghost use Rattle.enc_reference_depth.specs.Kept.{KeptTwice, LayoutsLast, SlotsLast, TwinsAreMutual, TwinsLast};
 
 /// Rows that two edits keep, one after the other, are kept by both.
-pub fn kept_twice_law()
+pub fn kept_by_both_law()
     ensures { KeptTwice }
 {}
 

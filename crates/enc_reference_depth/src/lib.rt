@@ -8,5 +8,5 @@ mod laws;
 
 pub use deep::first_deep;
 pub use laws::{
-    kept_twice_law, layouts_last_law, slots_last_law, twins_are_mutual_law, twins_last_law,
+    kept_by_both_law, layouts_last_law, slots_last_law, twins_are_mutual_law, twins_last_law,
 };

@@ -37,7 +37,7 @@ fn goes_on(machine: &Machine, task: u32) -> bool
 }
 
 /// Where a task's innermost frame is to go on, or the number of the first rule that the remap breaks.
-fn plan_of<'a, V: ModuleView>(
+fn planned_move<'a, V: ModuleView>(
     machine: &Machine,
     view: &'a V,
     versions: &'a Versions,
@@ -87,7 +87,7 @@ fn remap_version<V: ModuleView>(
     ensures texts { IsTrue (machine_texts (V.users view.now) machine.old)
         → IsTrue (machine_texts (V.users view.now) machine.new) }
 {
-    let plan = match plan_of(machine, view, versions, task, pairs) {
+    let plan = match planned_move(machine, view, versions, task, pairs) {
         Err(number) => return Ok(Remapped::Refused(number)),
         Ok(plan) => plan,
     };

@@ -12,7 +12,7 @@ use Rattle.enc_schema.specs.Schema.{column_in}
 use Rattle.enc_schema.specs.declared.column.Coding.{Coding}
 use Rattle.enc_schema.specs.declared.column.Column.TheVariants.{Num16, Index, Coded}
 use Rattle.enc_row_order.specs.Keyed.{numbered_row}
-use Rattle.enc_row_order.specs.declared.sorting.Entry.{Entry}
+use Rattle.enc_row_order.specs.declared.sorting.KeyedRow.{KeyedRow}
 use Rattle.enc_row_order.specs.Orders.{Orders, moved_by, coded_value, column_key, key_columns, key_from, order_key, standing_rows}
 use Rattle.enc_row_order.proofs.Rowed.{more_mapped}
 
@@ -50,27 +50,27 @@ unfolding order_key key_from
 key_none o m u columns = rw columns refl
 
 -- the rows with their numbers, one behind the other
-abbrev pub entries_upto : (ℕ → ℕ) → ℕ → List Entry
+abbrev pub entries_upto : (ℕ → ℕ) → ℕ → List KeyedRow
 entries_upto key n = map (λ i. numbered_row key (i + 1)) (below n)
 
-pub more_entries : (key : ℕ → ℕ) (n : ℕ) (old : List Entry) (k : ℕ) → old ≡ entries_upto key n → k ≡ key (n + 1)
+pub more_entries : (key : ℕ → ℕ) (n : ℕ) (old : List KeyedRow) (k : ℕ) → old ≡ entries_upto key n → k ≡ key (n + 1)
     → old ++ record { key = k; row = n + 1 } ∷ [] ≡ entries_upto key (n + 1)
 more_entries key n old k before is =
     ap (λ xs. xs ++ record { key = k; row = n + 1 } ∷ []) before
-    ∙ ap (λ (j : ℕ). let e : Entry = record { key = j; row = n + 1 } in entries_upto key n ++ e ∷ []) is
+    ∙ ap (λ (j : ℕ). let e : KeyedRow = record { key = j; row = n + 1 } in entries_upto key n ++ e ∷ []) is
     ∙ more_mapped (λ i. numbered_row key (i + 1)) n
 
 map_twice : {A B C : Type 0} (f : B → C) (g : A → B) (xs : List A) → map (λ x. f (g x)) xs ≡ map f (map g xs)
 map_twice f g [] = refl
 map_twice f g (x ∷ xs) = ap (λ ys. f (g x) ∷ ys) (map_twice f g xs)
 
-pub all_entries : (m : Module) (table : ℕ) (key : ℕ → ℕ) (n : ℕ) (entries : List Entry) → entries ≡ entries_upto key n
+pub all_entries : (m : Module) (table : ℕ) (key : ℕ → ℕ) (n : ℕ) (entries : List KeyedRow) → entries ≡ entries_upto key n
     → n ≡ row_count m table → entries ≡ map (numbered_row key) (standing_rows m table)
 unfolding standing_rows
 all_entries m table key n entries is all =
     is ∙ map_twice (numbered_row key) (λ k. k + 1) (below n) ∙ ap (λ k. map (numbered_row key) (map (λ j. j + 1) (below k))) all
 
-pub no_entries : (key : ℕ → ℕ) (entries : List Entry) → entries ≡ [] → entries ≡ entries_upto key 0
+pub no_entries : (key : ℕ → ℕ) (entries : List KeyedRow) → entries ≡ [] → entries ≡ entries_upto key 0
 unfolding below
 no_entries key entries none = none
 

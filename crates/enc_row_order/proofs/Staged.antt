@@ -16,7 +16,7 @@ use Rattle.enc_base.specs.Tables as tables
 use Rattle.enc_base.specs.Tables.{table_count}
 use Rattle.enc_row_order.specs.Depth.{depth}
 use Rattle.enc_row_order.specs.Keyed.{sorted_key, entry_row, numbered_row, entries_numbered}
-use Rattle.enc_row_order.specs.declared.sorting.Entry.{Entry}
+use Rattle.enc_row_order.specs.declared.sorting.KeyedRow.{KeyedRow}
 use Rattle.enc_row_order.specs.Orders.{Orders, standing_rows, kids_listed, keyed_rows, order_key, goes_by_owner, by_depth, by_owner, by_method, by_key, by_param}
 use Rattle.enc_row_order.specs.Orders.{by_attribute, new_order}
 use Rattle.enc_row_order.specs.Places.{is_row_within}
@@ -177,13 +177,13 @@ rows_back : (key : ℕ → ℕ) (rows : List ℕ) → map entry_row (map (number
 rows_back key [] = refl
 rows_back key (r ∷ rows) = ap (λ xs. r ∷ xs) (rows_back key rows)
 
-pub entries_sorted : (key : ℕ → ℕ) (rows : List ℕ) (entries : List Entry) → entries ≡ map (numbered_row key) rows
+pub entries_sorted : (key : ℕ → ℕ) (rows : List ℕ) (entries : List KeyedRow) → entries ≡ map (numbered_row key) rows
     → map entry_row (sorted_by sorted_key entries) ≡ sorted_by key rows
 entries_sorted key rows entries is =
     ap (λ xs. map entry_row (sorted_by sorted_key xs)) is ∙ ap (map entry_row) (sym (sorted_map (numbered_row key) sorted_key rows))
     ∙ rows_back key (sorted_by key rows)
 
-pub keyed_sorted : (m : Module) (before : Orders) (table : ℕ) (entries : List Entry) (rows : List ℕ)
+pub keyed_sorted : (m : Module) (before : Orders) (table : ℕ) (entries : List KeyedRow) (rows : List ℕ)
     → entries ≡ map (numbered_row (order_key before m table)) (standing_rows m table) → rows ≡ map entry_row (sorted_by sorted_key entries)
     → rows ≡ keyed_rows before m table
 unfolding keyed_rows
@@ -213,21 +213,21 @@ depth_at m f table depths i d is low =
     (get_below (λ n. n + 1) (row_count m table) i (omega (arith, low, depths_long m f table depths is)))
 
 -- the first types with their depths
-abbrev pub front_entries : List ℕ → ℕ → List Entry
+abbrev pub front_entries : List ℕ → ℕ → List KeyedRow
 front_entries keys n = map (λ i. record { key = get_or keys i 0; row = i + 1 }) (below n)
 
-pub no_front : (keys : List ℕ) (entries : List Entry) → entries ≡ [] → entries ≡ front_entries keys 0
+pub no_front : (keys : List ℕ) (entries : List KeyedRow) → entries ≡ [] → entries ≡ front_entries keys 0
 unfolding below
 no_front keys entries none = none
 
-pub more_front : (keys : List ℕ) (i : ℕ) (old new : List Entry) (k : ℕ) → old ≡ front_entries keys i → k ≡ get_or keys i 0
+pub more_front : (keys : List ℕ) (i : ℕ) (old new : List KeyedRow) (k : ℕ) → old ≡ front_entries keys i → k ≡ get_or keys i 0
     → new ≡ old ++ record { key = k; row = i + 1 } ∷ [] → new ≡ front_entries keys (i + 1)
 more_front keys i old new k before is after =
     after ∙ ap (λ xs. xs ++ record { key = k; row = i + 1 } ∷ []) before
-    ∙ ap (λ (j : ℕ). let e : Entry = record { key = j; row = i + 1 } in front_entries keys i ++ e ∷ []) is
-    ∙ more_mapped (λ j. let e : Entry = record { key = get_or keys j 0; row = j + 1 } in e) i
+    ∙ ap (λ (j : ℕ). let e : KeyedRow = record { key = j; row = i + 1 } in front_entries keys i ++ e ∷ []) is
+    ∙ more_mapped (λ j. let e : KeyedRow = record { key = get_or keys j 0; row = j + 1 } in e) i
 
-pub all_front : (keys : List ℕ) (i : ℕ) (entries : List Entry) → i ≡ length keys → entries ≡ front_entries keys i → entries ≡ entries_numbered keys
+pub all_front : (keys : List ℕ) (i : ℕ) (entries : List KeyedRow) → i ≡ length keys → entries ≡ front_entries keys i → entries ≡ entries_numbered keys
 unfolding entries_numbered
 all_front keys i entries all is = is ∙ ap (front_entries keys) all
 
@@ -249,11 +249,11 @@ entries_are : (m : Module) (f : ℕ → ℕ) (table : ℕ) (keys : List ℕ) →
     → entries_numbered keys ≡ map (numbered_row f) (standing_rows m table)
 unfolding entries_numbered standing_rows
 entries_are m f table keys is long =
-    agree (λ i. let e : Entry = record { key = get_or keys i 0; row = i + 1 } in e) (λ i. numbered_row f (i + 1)) (length keys)
-    (λ i low. ap (λ (k : ℕ). let e : Entry = record { key = k; row = i + 1 } in e) (depth_at m f table keys i 0 is low))
+    agree (λ i. let e : KeyedRow = record { key = get_or keys i 0; row = i + 1 } in e) (λ i. numbered_row f (i + 1)) (length keys)
+    (λ i low. ap (λ (k : ℕ). let e : KeyedRow = record { key = k; row = i + 1 } in e) (depth_at m f table keys i 0 is low))
     ∙ ap (λ n. map (λ i. numbered_row f (i + 1)) (below n)) long ∙ map_after (numbered_row f) (below (row_count m table))
 
-pub depth_sorted : (m : Module) (table : ℕ) (keys : List ℕ) (entries : List Entry) (rows : List ℕ) → keys ≡ map (depth m) (standing_rows m table)
+pub depth_sorted : (m : Module) (table : ℕ) (keys : List ℕ) (entries : List KeyedRow) (rows : List ℕ) → keys ≡ map (depth m) (standing_rows m table)
     → entries ≡ entries_numbered keys → rows ≡ map entry_row (sorted_by sorted_key entries) → rows ≡ sorted_by (depth m) (standing_rows m table)
 depth_sorted m table keys entries rows are is sorted =
     sorted ∙ entries_sorted (depth m) (standing_rows m table) entries (is ∙ entries_are m (depth m) table keys are (depths_long m (depth m) table keys are))

@@ -9,7 +9,7 @@ ghost use Rattle.enc_schema.specs.Schema.{column_in, list_at};
 
 use crate::key_columns::key_columns;
 use crate::order::Order;
-use crate::sorting::Entry;
+use crate::sorting::KeyedRow;
 use enc_base::Token;
 use enc_plain::ModuleView;
 use enc_schema::{Coding, Column, column_of, encode_coded};
@@ -64,14 +64,14 @@ pub(crate) fn keyed_entries<V: ModuleView>(
     view: &V,
     order: &Order,
     table: u8,
-) -> Result<Vec<Entry>, AllocError>
+) -> Result<Vec<KeyedRow>, AllocError>
     requires sound { IsSound (V.meaning view.now) }
     ensures { IfOk result (λ v. v.items ≡ entries_by (list_at order.now) (V.meaning view.now) table) }
 {
     let mut entries = Vec::with_capacity(alloc, view.count(table) as usize)?;
     for n in 0..view.count(table) {
         let row = Token { table, row: n + 1 };
-        entries.push(Entry {
+        entries.push(KeyedRow {
             key: key(view, order, row),
             row: n + 1,
         })?;

@@ -7,14 +7,14 @@ use std::alloc::{AllocError, Global};
 
 /// A row with the number by which it goes.
 #[derive(Clone, Copy, Debug, PartialEq, Eq)]
-pub(crate) struct Entry {
+pub(crate) struct KeyedRow {
     pub(crate) key: u64,
     pub(crate) row: u32,
 }
 
 /// The entries in the order of their keys, ties as they stand.
 #[tactic(auto, using(crate::proofs::OneOrder::sorted_is))]
-fn sorted(mut entries: Vec<Entry>) -> Result<Vec<Entry>, AllocError>
+fn sorted(mut entries: Vec<KeyedRow>) -> Result<Vec<KeyedRow>, AllocError>
     ensures { IfOk result (λ v. v.items ≡ sorted_by sorted_key entries.items) }
 {
     entries.sort_by_key(|entry| entry.key)?;
@@ -22,7 +22,7 @@ fn sorted(mut entries: Vec<Entry>) -> Result<Vec<Entry>, AllocError>
 }
 
 /// The rows of entries.
-fn rows_of(alloc: Global, entries: &[Entry]) -> Result<Vec<u32>, AllocError>
+fn rows_of(alloc: Global, entries: &[KeyedRow]) -> Result<Vec<u32>, AllocError>
     ensures { IfOk result (λ v. v.items ≡ map entry_row entries.now) }
 {
     let mut rows = Vec::with_capacity(alloc, entries.len())?;
@@ -34,7 +34,7 @@ fn rows_of(alloc: Global, entries: &[Entry]) -> Result<Vec<u32>, AllocError>
 }
 
 /// The rows of entries in the order of their keys, ties as they stand.
-pub(crate) fn sorted_rows(alloc: Global, entries: Vec<Entry>) -> Result<Vec<u32>, AllocError>
+pub(crate) fn sorted_rows(alloc: Global, entries: Vec<KeyedRow>) -> Result<Vec<u32>, AllocError>
     ensures { IfOk result (λ v. v.items ≡ map entry_row (sorted_by sorted_key entries.items)) }
 {
     let entries = sorted(entries)?;

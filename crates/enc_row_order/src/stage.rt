@@ -20,7 +20,7 @@ use crate::keys::keyed_entries;
 use crate::kids::kids_listed;
 use crate::order::Order;
 use crate::rows::Rows;
-use crate::sorting::{Entry, sorted_rows};
+use crate::sorting::{KeyedRow, sorted_rows};
 use enc_base::tables::{
     CUSTOM_ATTRIBUTE, EVENT, FIELD, GENERIC_PARAM_CONSTRAINT, METHOD_DEF, PARAM, PROPERTY,
     TABLE_COUNT, TYPE_DEF,
@@ -59,14 +59,14 @@ fn types_by_depth<V: ModuleView>(alloc: Global, view: &V) -> Result<Vec<u32>, Al
 }
 
 /// The types, from row 1, with their depths.
-fn depth_entries(alloc: Global, depths: &[u32]) -> Result<Vec<Entry>, AllocError>
+fn depth_entries(alloc: Global, depths: &[u32]) -> Result<Vec<KeyedRow>, AllocError>
     requires few { length depths.now < 2 ^ 24 }
     ensures { IfOk result (λ v. v.items ≡ entries_numbered depths.now) }
 {
     let mut entries = Vec::with_capacity(alloc, depths.len())?;
     for i in 0..depths.len() {
         let depth = depths[i];
-        entries.push(Entry {
+        entries.push(KeyedRow {
             key: u64::from(depth),
             row: i as u32 + 1,
         })?;

@@ -13,13 +13,13 @@ use Rattle.enc_edit_list.specs.declared.edit.Edit.{Edit}
 use Rattle.enc_edit_list.specs.declared.edit.Edit.TheVariants.{Add, Body as Replace}
 use Rattle.enc_edit_list.specs.declared.edit.EditList.{EditList}
 use Rattle.enc_edit_list.specs.Form.{list_fits, begins_with_rva}
-use Rattle.enc_rules.specs.declared.context.Known.{Known}
+use Rattle.enc_rules.specs.declared.context.ListRows.{ListRows}
 use Rattle.enc_rules.specs.Edited.{rows_edited, attached_in}
 use Rattle.enc_rules.specs.Listed.{AfterList, count_after, rows_listed}
 
 -- what is known is that of this chain and this list, which has the form of one, and no table has more than 2^24 - 1
 -- rows after it
-pub record KnowsList (c : Chain) (l : EditList) (k : Known) : Type 0 where
+pub record KnowsList (c : Chain) (l : EditList) (k : ListRows) : Type 0 where
   pub form : list_fits l ≡ true
   pub rows : k.rows.items ≡ rows_edited c.plain l.edits
   pub pairs : map pair_seen k.pairs.items ≡ attached_in c.plain l.edits

@@ -18,7 +18,7 @@ use std::marker::Model;
 
 /// What is known of an edit list after a chain.
 #[derive(Drop)]
-pub struct Known {
+pub struct ListRows {
     /// The row that each edit adds, or the method whose body it replaces.
     pub rows: Vec<Token>,
     /// The children that the list gives to their owners.
@@ -34,7 +34,7 @@ pub struct Context<'a, C: ChainView> {
     pub old: Viewed<'a, C>,
     pub list: &'a EditList,
     pub added: Added<'a>,
-    pub known: Known,
+    pub known: ListRows,
 }
 
 impl<'a, C: ChainView> Model for Context<'a, C> {

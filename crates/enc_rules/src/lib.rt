@@ -16,7 +16,7 @@ mod signatures;
 mod sums;
 mod whole;
 
-pub use context::{Context, Known};
+pub use context::{Context, ListRows};
 pub use first::first_broken;
 pub use heaps::heaps_of;
 pub use points::points_given;

@@ -10,7 +10,7 @@ ghost use Rattle.enc_rules.specs.Listed.{count_after};
 ghost use Rattle.enc_rules.specs.Known.{key_of_row};
 ghost use Rattle.enc_rules.specs.Rules.{there_are_too_many, row_is_edited_twice};
 
-use crate::context::{Context, Known};
+use crate::context::{Context, ListRows};
 use enc_base::{Counts, Token};
 use enc_delta::Pair;
 use enc_edit_list::{Added, Edit, EditList};
@@ -134,7 +134,7 @@ pub fn context_of<'a, C: ChainView>(
         old: Viewed { view: chain },
         list,
         added,
-        known: Known {
+        known: ListRows {
             rows,
             pairs,
             counts,

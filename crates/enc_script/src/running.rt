@@ -47,7 +47,7 @@ impl<W: Watcher> Running<W> {
         watchers: Vec<W>,
     ) -> Result<Running<W>, AllocError>
         ensures { IfOk result (λ r. r ≡ begun_with (record { base = image; deltas = []; debug = pdb; debugs = [] })
-            (map (λ w. record { kind = W.kind_of w; limit = W.limit w; heard = W.heard w }) watchers.items)) }
+            (map W.watching watchers.items)) }
     {
         Ok(Running {
             session: Session::begin(alloc, image, pdb)?,

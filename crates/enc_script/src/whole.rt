@@ -29,10 +29,9 @@ fn run_commands<W: Watcher>(
 }
 
 /// Runs a script over a base, its PDB, where it has one, the deltas that the script names, and watchers that it may
-/// attach, and appends what it prints: the lines of its commands, and the reports of the watchers that are attached
-/// at the
-/// end. A delta that isn't accepted is a line, and changes nothing. Of each hearing it is free only whether the watcher
-/// found memory for it.
+/// attach, and appends what it prints: the lines of its commands, and the reports of the watchers that are attached at
+/// the end. A delta that isn't accepted is a line, and changes nothing. Of each hearing it is free only whether the
+/// watcher found memory for it.
 pub fn run<W: Watcher>(
     alloc: Global,
     image: Image,
@@ -44,7 +43,7 @@ pub fn run<W: Watcher>(
 ) -> Result<(), AllocError>
     requires { length script.now < 2 ^ 32 }
     ensures { OnOk result (RunWasAppended (map named_delta deltas.now) (map
-        (λ w. record { kind = W.kind_of w; limit = W.limit w; heard = W.heard w }) watchers.items)
+        W.watching watchers.items)
         (record { base = image; deltas = []; debug = pdb; debugs = [] }) script.now out.new.items out.old.items) }
 {
     let mut running = Running::begin(alloc, image, pdb, watchers)?;

@@ -6,7 +6,7 @@ use Rattle.enc_agg.specs.Extend.{extended, chain_with}
 use Rattle.enc_agg.specs.Seen.{History, chain_of_all, module_of_all, users_of_all}
 use Rattle.enc_base.specs.declared.token.Token.{Token}
 use Rattle.enc_checker.specs.Check.{new_bodies, accepted}
-use Rattle.enc_checker.specs.Followed.{Followed, followed_by}
+use Rattle.enc_checker.specs.Followed.{Followed, debug_after, followed_by}
 use Rattle.enc_delta.specs.Delta.{listed}
 use Rattle.enc_delta.specs.Judged.{first_meta}
 use Rattle.enc_delta.specs.Seen.{WasRead}
@@ -28,7 +28,8 @@ use Rattle.enc_versions.specs.Version.{Version}
 use Rattle.enc_frames.specs.Machine.{PlainCode, MachineState, state_meant}
 use Rattle.enc_vm.specs.Texts.{machine_texts}
 use Rattle.enc_session.specs.Codes.{new_versions, meant_by, AcceptedBodiesAreNew, AcceptedRowsAreChanged}
-use Rattle.enc_session.specs.Engine.{PlainEngine, AreParts, IsEngine, IsAcceptedAfter, SayTheSame, followed_in, machine_in}
+use Rattle.enc_session.specs.Engine.{PlainEngine, AreParts, IsEngine, SayTheSame, followed_in, machine_in}
+use Rattle.enc_chain.specs.Kept.{IsAcceptedAfter, chain_of}
 use Rattle.enc_session.specs.declared.parts.Parts.{Parts}
 
 -- an index stands for a module whatever its room
@@ -66,24 +67,24 @@ bodies_follow c d pdb debug before after commits news follows sound keeps are co
     commits (meant_by c debug) (meant_by (extended c d) (pdb_changed debug (record { pdb = pdb; changed = new_bodies d }))) (new_versions d pdb) before after are
     (news c d pdb follows.files debug follows.read follows.judged_ok sound) keeps committed
 
-pub parts_follow : (new old : Parts) (d : Source) (pdb : Option Source) (codes : List NewVersion) (changed : List _)
-    → CommitStands → AcceptedBodiesAreNew → AreParts old → IsAcceptedAfter (chain_of_all old.agg) d pdb → IsSound (module_of_all old.agg)
-    → chain_of_all new.agg ≡ extended (chain_of_all old.agg) d → KeepsTexts (users_of_all old.agg) (users_of_all new.agg)
-    → changed ≡ new_bodies d → new.debug.base ≡ old.debug.base → new.debug.deltas ≡ record { pdb = pdb; changed = changed } ∷ old.debug.deltas
+pub parts_follow : (new old : Parts) (d : Source) (pdb : Option Source) (codes : List NewVersion)
+    → CommitStands → AcceptedBodiesAreNew → AreParts old → IsAcceptedAfter (chain_of_all old.joined.rows) d pdb → IsSound (module_of_all old.joined.rows)
+    → chain_of_all new.joined.rows ≡ extended (chain_of_all old.joined.rows) d → KeepsTexts (users_of_all old.joined.rows) (users_of_all new.joined.rows)
+    → followed_in new ≡ followed_by (followed_in old) (accepted d pdb)
     → codes ≡ new_versions d pdb → AreCommitted codes old.versions.methods new.versions.methods
-    → StandsForModule new.dispatch (extended (chain_of_all old.agg) d).plain
+    → StandsForModule new.dispatch (extended (chain_of_all old.joined.rows) d).plain
     → AreParts new
-parts_follow new old d pdb codes changed commits news parts follows sound chain keeps changed_is debug_base debug_deltas codes_is committed stands =
-    let kept : KeepsTexts (users_of_all old.agg) (joined_user (extended (chain_of_all old.agg) d).heaps) =
-    subst (λ (c : Chain). KeepsTexts (users_of_all old.agg) (joined_user c.heaps)) chain keeps in
+parts_follow new old d pdb codes commits news parts follows sound chain keeps more codes_is committed stands =
+    let kept : KeepsTexts (users_of_all old.joined.rows) (joined_user (extended (chain_of_all old.joined.rows) d).heaps) =
+    subst (λ (c : Chain). KeepsTexts (users_of_all old.joined.rows) (joined_user c.heaps)) chain keeps in
     let fact : AreCommitted (new_versions d pdb) old.versions.methods new.versions.methods =
     subst (λ (n : List NewVersion). AreCommitted n old.versions.methods new.versions.methods) codes_is committed in
-    let bodies = bodies_follow (chain_of_all old.agg) d pdb (pdb_with old.debug.base old.debug.deltas) old.versions.methods new.versions.methods commits news follows sound kept parts.bodies fact in
-    let debug : pdb_with new.debug.base new.debug.deltas ≡ pdb_changed (pdb_with old.debug.base old.debug.deltas) (record { pdb = pdb; changed = new_bodies d }) =
-    rw (debug_base, debug_deltas, changed_is) (debug_more old.debug.base old.debug.deltas (record { pdb = pdb; changed = new_bodies d })) in
+    let bodies = bodies_follow (chain_of_all old.joined.rows) d pdb (pdb_with old.joined.points.base old.joined.points.deltas) old.versions.methods new.versions.methods commits news follows sound kept parts.bodies fact in
+    let debug : pdb_with new.joined.points.base new.joined.points.deltas ≡ pdb_changed (pdb_with old.joined.points.base old.joined.points.deltas) (record { pdb = pdb; changed = new_bodies d }) =
+    ap debug_after more ∙ (debug_more old.joined.points.base old.joined.points.deltas (record { pdb = pdb; changed = new_bodies d })) in
     record {
       index = subst (λ (c : Chain). StandsForModule new.dispatch c.plain) (sym chain) stands;
-      bodies = rw debug (subst (λ (c : Chain). AreVersionsOf (joined_user c.heaps) c.plain (pdb_changed (pdb_with old.debug.base old.debug.deltas) (record { pdb = pdb; changed = new_bodies d })) new.versions.methods) (sym chain) bodies);
+      bodies = rw debug (subst (λ (c : Chain). AreVersionsOf (joined_user c.heaps) c.plain (pdb_changed (pdb_with old.joined.points.base old.joined.points.deltas) (record { pdb = pdb; changed = new_bodies d })) new.versions.methods) (sym chain) bodies);
     }
 
 -- how many generations there are
@@ -109,13 +110,14 @@ changed_ready new old d e ts law base deltas delta tokens read rules sound =
 -- parts that say the same keep the invariant, and mean the same
 pub same_engine : (new old : Parts) (s : MachineState Version) → SayTheSame new old → IsEngine old s → IsEngine new s
 same_engine new old s same is =
-    let chain = chain_same new.agg old.agg same.base same.deltas in
-    let bodies : AreVersionsOf (users_of_all old.agg) (module_of_all old.agg) (pdb_with new.debug.base new.debug.deltas) new.versions.methods =
-    rw (same.debug_base, same.debug_deltas, same.methods) is.parts.bodies in
+    let chain = ap chain_of same.chain in
+    let debug : pdb_with new.joined.points.base new.joined.points.deltas ≡ pdb_with old.joined.points.base old.joined.points.deltas = ap debug_after same.chain in
+    let bodies : AreVersionsOf (users_of_all old.joined.rows) (module_of_all old.joined.rows) (pdb_with new.joined.points.base new.joined.points.deltas) new.versions.methods =
+    rw (debug, same.methods) is.parts.bodies in
     record {
       parts = record {
         index = subst (λ (c : Chain). StandsForModule new.dispatch c.plain) (sym chain) (same.index is.parts.index);
-        bodies = subst (λ (c : Chain). AreVersionsOf (joined_user c.heaps) c.plain (pdb_with new.debug.base new.debug.deltas) new.versions.methods) (sym chain) bodies;
+        bodies = subst (λ (c : Chain). AreVersionsOf (joined_user c.heaps) c.plain (pdb_with new.joined.points.base new.joined.points.deltas) new.versions.methods) (sym chain) bodies;
       };
       texts = subst (λ (c : Chain). IsTrue (machine_texts (joined_user c.heaps) s)) (sym chain) is.texts;
     }
@@ -124,10 +126,10 @@ abbrev pub engine_of : Parts → MachineState Version → PlainEngine
 engine_of p s = record { followed = followed_in p; machine = machine_in p s }
 
 same_followed : (new old : Parts) → SayTheSame new old → followed_in new ≡ followed_in old
-same_followed new old same = rw (same.base, same.deltas, same.debug_base, same.debug_deltas) refl
+same_followed new old same = same.chain
 
 same_machine : (new old : Parts) (s : MachineState Version) → SayTheSame new old → machine_in new s ≡ machine_in old s
-same_machine new old s same = ap (λ (c : Chain). state_meant (joined_user c.heaps) s) (chain_same new.agg old.agg same.base same.deltas)
+same_machine new old s same = ap (λ (c : Chain). state_meant (joined_user c.heaps) s) (ap chain_of same.chain)
 
 abbrev engine_with : Followed → MachineState PlainCode → PlainEngine
 engine_with f m = record { followed = f; machine = m }

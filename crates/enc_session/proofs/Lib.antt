@@ -13,9 +13,9 @@ mod Coded
 mod Committed
 pub mod Remapping
 mod Generations
-mod Dated
+mod FrameGenerations
 mod Lined
-mod DatesKept
-mod DatesMean
+mod GenerationsKept
+mod GenerationsMean
 mod Recorded
 mod Stepping

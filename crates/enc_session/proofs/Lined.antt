@@ -61,14 +61,14 @@ values_meant users s task i part f look is =
     ap (option_map (held_in part)) (look ∙ ap (option_map (frame_meant users)) is) ∙ ap (λ (vs : List Value). Some vs) (held_meant users part f)
 
 abbrev pub told : ℕ → Frame PlainCode → FrameFacts
-told date f = facts_with date f.code.points f
+told generation f = facts_with generation f.code.points f
 
-pub no_facts : (users : ℕ → Option (List ℕ)) (s : MachineState Version) (task i date : ℕ)
+pub no_facts : (users : ℕ → Option (List ℕ)) (s : MachineState Version) (task i generation : ℕ)
     → frame_in (state_meant users s) task i ≡ option_map (frame_meant users) (frame_in s task i) → frame_in s task i ≡ None
-    → option_map (told date) (frame_in (state_meant users s) task i) ≡ None
-no_facts users s task i date look none = ap (option_map (told date)) (look ∙ ap (option_map (frame_meant users)) none)
+    → option_map (told generation) (frame_in (state_meant users s) task i) ≡ None
+no_facts users s task i generation look none = ap (option_map (told generation)) (look ∙ ap (option_map (frame_meant users)) none)
 
-pub facts_meant : (users : ℕ → Option (List ℕ)) (s : MachineState Version) (task i date : ℕ) (f : Frame Version)
+pub facts_meant : (users : ℕ → Option (List ℕ)) (s : MachineState Version) (task i generation : ℕ) (f : Frame Version)
     → frame_in (state_meant users s) task i ≡ option_map (frame_meant users) (frame_in s task i) → frame_in s task i ≡ Some f
-    → option_map (told date) (frame_in (state_meant users s) task i) ≡ Some (facts_with date (lines_read f.code.points).points f)
-facts_meant users s task i date f look is = ap (option_map (told date)) (look ∙ ap (option_map (frame_meant users)) is)
+    → option_map (told generation) (frame_in (state_meant users s) task i) ≡ Some (facts_with generation (lines_read f.code.points).points f)
+facts_meant users s task i generation f look is = ap (option_map (told generation)) (look ∙ ap (option_map (frame_meant users)) is)

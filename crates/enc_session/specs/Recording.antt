@@ -1,5 +1,5 @@
--- A session that is recorded: its events and its text until they are taken, and the date of each frame, which is the
--- generation that brought its body.
+-- A session that is recorded: its events and its text until they are taken, and of each frame the generation that
+-- brought its body.
 use Rattle.std.specs.Prelude.{◌≡◌, ◌<◌, ◌+◌, ◌-◌, ℕ, zero, suc, List, [], ◌∷◌, ◌++◌, length, map, take, drop, reverse, get_or, slice_set, nat_le, Option, None, option_map, unwrap_or, Result, Ok, Err, if◌then◌else◌}
 use Rattle.std.specs.List.{list_any}
 use Rattle.std.specs.declared.alloc.AllocError.{AllocError}
@@ -24,15 +24,14 @@ use Rattle.enc_session.specs.declared.looks.FrameFacts.{FrameFacts}
 use Rattle.enc_session.specs.declared.looks.FramePart.{FramePart}
 use Rattle.enc_session.specs.declared.looks.FramePart.TheVariants.{Arguments, Locals, Stack}
 
--- the base with its deltas, the machine, the events and the text that nobody has taken, the dates of each task's
--- frames, the innermost first, and how many
--- events there may be
+-- the base with its deltas, the machine, the events and the text that nobody has taken, the generations of each task's
+-- frames, the innermost first, and how many events there may be
 pub record Recorded : Type 0 where
   pub followed : Followed
   pub machine : MachineState PlainCode
   pub events : List Event
   pub text : List ℕ
-  pub dates : List (List ℕ)
+  pub generations : List (List ℕ)
   pub limit : ℕ
 
 -- a base without deltas, and nothing recorded
@@ -42,7 +41,7 @@ recorded_base base debug limit = record {
   machine = at_rest;
   events = [];
   text = [];
-  dates = [];
+  generations = [];
   limit = limit;
 }
 
@@ -52,40 +51,42 @@ body_generation [] method = 0
 body_generation (d ∷ older) method =
     if list_any (is_token method) (new_bodies d) then length older + 1 else body_generation older method
 
--- the dates of frames, the innermost first, by those that there were: frames that are more are new, and where they
--- are fewer, as many are gone from the front
-unfoldable pub redated : {C : Type 0} → (Token → ℕ) → List (Frame C) → List ℕ → List ℕ
-redated date frames dates =
-    map (λ (f : Frame _). date f.method) (take (length frames - length dates) frames) ++ drop
-    (length dates - length frames) dates
+-- the generations of frames, the innermost first, by those that there were: frames that are more are new, and where
+-- they are fewer, as many are gone from the front
+unfoldable pub generations_now : {C : Type 0} → (Token → ℕ) → List (Frame C) → List ℕ → List ℕ
+generations_now generation frames generations =
+    map (λ (f : Frame _). generation f.method) (take (length frames - length generations) frames) ++ drop
+    (length generations - length frames) generations
 
 -- those of the frames of the task with a number, from 1
-abbrev pub dates_of : List (List ℕ) → ℕ → List ℕ
-dates_of dates task = get_or dates (task - 1) []
+abbrev pub generations_of : List (List ℕ) → ℕ → List ℕ
+generations_of generations task = get_or generations (task - 1) []
 
-abbrev pub redated_in : Followed → MachineState PlainCode → ℕ → List (List ℕ) → List (List ℕ)
-redated_in f m task dates = slice_set dates (task - 1)
-    (redated (body_generation f.deltas) (frames_in m task) (dates_of dates task))
+abbrev pub generations_now_in : Followed → MachineState PlainCode → ℕ → List (List ℕ) → List (List ℕ)
+generations_now_in f m task generations = slice_set generations (task - 1)
+    (generations_now (body_generation f.deltas) (frames_in m task) (generations_of generations task))
 
--- each task has a date for each of its frames, and no other
-abbrev pub AreDated : MachineState PlainCode → List (List ℕ) → Type 0
-AreDated m dates = map (λ (ds : List ℕ). length ds) dates ≡ map (λ (t : Task PlainCode). length (frames_of t)) m.tasks
+-- each task has a generation for each of its frames, and no other
+abbrev pub HaveGenerations : MachineState PlainCode → List (List ℕ) → Type 0
+HaveGenerations m generations =
+    map (λ (gs : List ℕ). length gs) generations ≡ map (λ (t : Task PlainCode). length (frames_of t)) m.tasks
 
 -- and with another one of the innermost frame
-abbrev pub with_first_date : ℕ → List ℕ → List ℕ
-with_first_date date [] = []
-with_first_date date (d ∷ dates) = date ∷ dates
+abbrev pub with_first_generation : ℕ → List ℕ → List ℕ
+with_first_generation generation [] = []
+with_first_generation generation (_ ∷ generations) = generation ∷ generations
 
-abbrev pub moved_date : Followed → Token → ℕ → List (List ℕ) → List (List ℕ)
-moved_date f method task dates =
-    slice_set dates (task - 1) (with_first_date (body_generation f.deltas method) (dates_of dates task))
+abbrev pub moved_generations : Followed → Token → ℕ → List (List ℕ) → List (List ℕ)
+moved_generations f method task generations =
+    slice_set generations (task - 1)
+    (with_first_generation (body_generation f.deltas method) (generations_of generations task))
 
 -- a spawn: where there is no new task, nothing happened
 abbrev pub spawn_recorded_by : Token → Spawning PlainCode → Recorded → Recorded
 spawn_recorded_by method (begun n u) r = record r {
   machine = u;
   events = r.events ++ begun_events method n u;
-  dates = r.dates ++ redated (body_generation r.followed.deltas) (frames_in u n) [] ∷ [];
+  generations = r.generations ++ generations_now (body_generation r.followed.deltas) (frames_in u n) [] ∷ [];
 }
 spawn_recorded_by method too_many r = r
 spawn_recorded_by method no_method r = r
@@ -101,7 +102,7 @@ turn_recorded task (went how u line shown) r = record r {
   machine = u;
   events = r.events ++ step_events task (innermost_method r.machine task) how line shown;
   text = r.text ++ step_lines task how u shown;
-  dates = redated_in r.followed u task r.dates;
+  generations = generations_now_in r.followed u task r.generations;
 }
 
 unfoldable pub step_recorded : ℕ → Recorded → Recorded
@@ -155,7 +156,7 @@ remapped_in task pairs r = remap_in (plain_of r.followed) (debug_after r.followe
 
 abbrev pub remap_recorded_by : ℕ → Remapping PlainCode → Recorded → Recorded
 remap_recorded_by task (moved method from to u) r =
-    record r { machine = u; dates = moved_date r.followed method task r.dates }
+    record r { machine = u; generations = moved_generations r.followed method task r.generations }
 remap_recorded_by task (refused number) r = r
 
 unfoldable pub remap_recorded : ℕ → List (ℕ × ℕ) → Recorded → Recorded
@@ -169,11 +170,11 @@ unfoldable pub line_before : ℕ → List (ℕ × Option (ℕ × ℕ × ℕ × �
 line_before offset [] = None
 line_before offset (p ∷ points) = or_else (line_before offset points) (line_of_point offset p)
 
--- a frame with these points and this date, as it is told: a line 0 where there is none
+-- a frame with these points and this generation, as it is told: a line 0 where there is none
 abbrev pub facts_with : {C : Type 0} → ℕ → List (ℕ × Option (ℕ × ℕ × ℕ × ℕ)) → Frame C → FrameFacts
-facts_with date points f = record {
+facts_with generation points f = record {
   method = f.method;
-  generation = date;
+  generation = generation;
   offset = f.offset;
   line = unwrap_or (line_before f.offset points) 0;
   arguments = length f.args;
@@ -184,7 +185,8 @@ facts_with date points f = record {
 -- the i-th frame of a task, from 0 for the outermost, by its own points
 unfoldable pub facts_in : Recorded → ℕ → ℕ → Option FrameFacts
 facts_in r task i =
-    option_map (λ (f : Frame PlainCode). facts_with (get_or (reverse (dates_of r.dates task)) i 0) f.code.points f)
+    option_map
+    (λ (f : Frame PlainCode). facts_with (get_or (reverse (generations_of r.generations task)) i 0) f.code.points f)
     (frame_in r.machine task i)
 
 -- what a frame holds, its stack from the bottom up

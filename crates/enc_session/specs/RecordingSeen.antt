@@ -43,6 +43,6 @@ is_made end.Absent = false
 is_made end.Idle = false
 is_made _ = true
 
--- the dates of the frames behind so many, from the outermost
-abbrev pub dates_behind : {C : Type 0} → (Token → ℕ) → List (Frame C) → ℕ → List ℕ
-dates_behind date frames n = map (λ (f : Frame _). date f.method) (drop n (reverse frames))
+-- the generations of the frames behind so many, from the outermost
+abbrev pub generations_behind : {C : Type 0} → (Token → ℕ) → List (Frame C) → ℕ → List ℕ
+generations_behind generation frames n = map (λ (f : Frame _). generation f.method) (drop n (reverse frames))

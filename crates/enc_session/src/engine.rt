@@ -11,7 +11,7 @@ ghost use Rattle.enc_vm.specs.Step.{spawn_in};
 ghost use Rattle.enc_vm.specs.Turns.{IsSpawn, IsTurn, KeepsSeen, machine_turn};
 ghost use Rattle.enc_remap.specs.Remap.{remap_in};
 ghost use Rattle.enc_remap.specs.Seen.{IsRemap};
-ghost use Rattle.enc_session.specs.Engine.{IsAcceptedAfter};
+ghost use Rattle.enc_chain.specs.Kept.{IsAcceptedAfter};
 ghost use Rattle.enc_session.specs.Session.{applied_as, files_in, followed_after, judged_after, innermost_method, world_of};
 ghost use Rattle.enc_session.specs.States.{state_text};
 
@@ -74,9 +74,9 @@ impl Engine {
             (spawn_in (world_of self.old.followed) method self.old.machine) }
         ensures followed { self.new.followed ≡ self.old.followed }
     {
-        self.parts.agg.sound();
+        self.parts.joined.rows().sound();
         self.machine
-            .spawn(&self.parts.agg, &self.parts.versions, method)
+            .spawn(self.parts.joined.rows(), &self.parts.versions, method)
     }
 
     /// A step of a task, as the plain machine's.
@@ -86,9 +86,9 @@ impl Engine {
         ensures seen { KeepsSeen result seen.new seen.old }
         ensures followed { self.new.followed ≡ self.old.followed }
     {
-        self.parts.agg.sound();
+        self.parts.joined.rows().sound();
         self.machine.step(
-            &self.parts.agg,
+            self.parts.joined.rows(),
             &self.parts.versions,
             &self.parts.dispatch,
             task,
@@ -102,11 +102,11 @@ impl Engine {
             (remap_in (plain_of self.old.followed) (debug_after self.old.followed) task map.now self.old.machine) }
         ensures followed { self.new.followed ≡ self.old.followed }
     {
-        self.parts.agg.sound();
+        self.parts.joined.rows().sound();
         remap(
             self.alloc,
             &mut self.machine,
-            &self.parts.agg,
+            self.parts.joined.rows(),
             &self.parts.versions,
             task,
             map,
@@ -118,8 +118,8 @@ impl Engine {
         ensures { WritesAtMost result (machine_turn (world_of self.now.followed) task self.now.machine) }
     {
         meaning_laws();
-        self.parts.agg.sound();
-        self.machine.write_units(&self.parts.agg, task)
+        self.parts.joined.rows().sound();
+        self.machine.write_units(self.parts.joined.rows(), task)
     }
 
     /// How it stands with a task.
@@ -192,7 +192,7 @@ impl Engine {
     pub(crate) fn generations(&self) -> u32
         ensures { result ≡ length self.now.followed.deltas + 1 }
     {
-        self.parts.agg.generations()
+        self.parts.joined.rows().generations()
     }
 
     /// Judges the files of a delta after the deltas before them.
@@ -201,13 +201,7 @@ impl Engine {
         ensures follows { IfOk result (λ c. IsAcceptedAfter
             (chain_with self.now.followed.base self.now.followed.deltas) c.delta c.pdb) }
     {
-        match check(self.alloc, &self.parts.agg, files) {
-            Err(fault) => Err(fault),
-            Ok(checked) => {
-                checked.delta.was_read();
-                Ok(checked)
-            }
-        }
+        self.parts.joined.check(self.alloc, files)
     }
 
     /// The files of a delta: they are applied where they break no rule after the deltas before them, and else

@@ -3,9 +3,9 @@
 
 mod applied;
 mod codes;
-mod dates;
 mod engine;
 mod events;
+mod frame_generations;
 mod laws;
 mod lines;
 mod looks;
@@ -18,7 +18,7 @@ mod states;
 mod values;
 
 pub use applied::Applied;
-pub use laws::{changed_law, codes_law, dates_law};
+pub use laws::{changed_law, codes_law, generations_law};
 pub use lines::{push_task, push_word};
 pub use looks::{FrameFacts, FramePart};
 pub use recording::{Recording, Stepped};

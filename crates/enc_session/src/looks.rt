@@ -75,14 +75,14 @@ fn line_before(points: &Points, offset: u32) -> Option<u32>
     line
 }
 
-/// A frame with a date, as it is told.
-fn facts_of(frame: &FrameRef<'_>, date: u32) -> FrameFacts
-    ensures { result ≡ facts_with date (lines_read frame.now.code.points).points frame.now }
+/// A frame with a generation, as it is told.
+fn facts_of(frame: &FrameRef<'_>, generation: u32) -> FrameFacts
+    ensures { result ≡ facts_with generation (lines_read frame.now.code.points).points frame.now }
 {
     let line = line_before(frame.code().as_ref().points(), frame.offset());
     FrameFacts {
         method: frame.method(),
-        generation: date,
+        generation,
         offset: frame.offset(),
         line: line.unwrap_or(0),
         arguments: frame.args().len(),
@@ -100,14 +100,14 @@ impl Engine {
         self.machine.depth(task)
     }
 
-    /// The i-th frame of a task, from 0 for the outermost, with a date; None where it has no such frame.
-    pub(crate) fn frame(&self, task: u32, i: u32, date: u32) -> Option<FrameFacts>
-        ensures { result ≡ option_map (λ f. facts_with date f.code.points f) (frame_in self.now.machine task i) }
+    /// The i-th frame of a task, from 0 for the outermost, with a generation; None where it has no such frame.
+    pub(crate) fn frame(&self, task: u32, i: u32, generation: u32) -> Option<FrameFacts>
+        ensures { result ≡ option_map (λ f. facts_with generation f.code.points f) (frame_in self.now.machine task i) }
     {
         look_laws();
         match self.machine.frame(task, i) {
             None => None,
-            Some(frame) => Some(facts_of(&frame, date)),
+            Some(frame) => Some(facts_of(&frame, generation)),
         }
     }
 

@@ -1,38 +1,33 @@
 //! What stands for a base with the deltas that follow it, and what is made ready of one delta more.
-ghost use Rattle.std.specs.Prelude.{◌≡◌, ◌<◌, None, [], IfOk};
+ghost use Rattle.std.specs.Prelude.{◌≡◌, [], IfOk};
 ghost use Rattle.enc_agg.specs.Extend.{extended};
-ghost use Rattle.enc_agg.specs.Prepared.{IsPrepared};
 ghost use Rattle.enc_agg.specs.Seen.{chain_of_all, module_of_all, users_of_all};
+ghost use Rattle.enc_chain.specs.Kept.{IsAcceptedAfter, IsReadyFor};
 ghost use Rattle.enc_checker.specs.Followed.{followed_by};
 ghost use Rattle.enc_checker.specs.Check.{accepted};
-ghost use Rattle.enc_delta.specs.Judged.{first_meta};
 ghost use Rattle.enc_dispatch.specs.Changed.{IsChangedBy};
 ghost use Rattle.enc_dispatch.specs.Index.{StandsForModule};
 ghost use Rattle.enc_dispatch.specs.Ready.{IsPreparedFor};
 ghost use Rattle.enc_dispatch.specs.Stored.{with_room};
 ghost use Rattle.enc_opcodes.specs.Body.{KeepsTexts};
-ghost use Rattle.enc_session.specs.Engine.{AreParts, IsDeltaReady, IsAcceptedAfter, SayTheSame, followed_in};
+ghost use Rattle.enc_session.specs.Engine.{AreParts, IsDeltaReady, SayTheSame, followed_in};
 
 use crate::codes::new_codes;
 use crate::laws::{changed_law, codes_law};
-use enc_agg::{Aggregate, Ready};
-use enc_base::{Steps, Token};
-use enc_checker::{Checked, new_bodies};
-use enc_delta::Delta;
+use enc_base::Token;
+use enc_chain::{Joined, Prepared as ReadyDelta};
+use enc_checker::Checked;
 use enc_dispatch::{Dispatch, NewDispatch};
 use enc_image::Image;
-use enc_ppdb::{Listings, MethodList, Pdb, PdbChain, PdbDelta};
+use enc_ppdb::Pdb;
 use enc_versions::{NewVersions, Versions, commit_law};
 use std::alloc::{AllocError, Global};
-use std::marker::Brand;
-use std::sync::ledger::{Blank, Ledger};
 
 /// A base with the deltas that follow it: their files, their sequence points, the newest body of each method, and
 /// the index of virtual methods.
 #[derive(Drop)]
 pub(crate) struct Parts {
-    pub(crate) agg: Aggregate,
-    pub(crate) debug: PdbChain,
+    pub(crate) joined: Joined,
     pub(crate) versions: Versions,
     pub(crate) dispatch: Dispatch,
 }
@@ -40,50 +35,31 @@ pub(crate) struct Parts {
 /// A delta for which all memory is taken.
 #[derive(Drop)]
 pub(crate) struct Prepared {
-    pub(crate) ready: Ready,
-    pub(crate) pdb: Option<PdbDelta>,
-    pub(crate) changed: MethodList,
-    pub(crate) told: Listings,
+    pub(crate) delta: ReadyDelta,
     pub(crate) versions: NewVersions,
     pub(crate) dispatch: NewDispatch,
-}
-
-/// A delta made ready, its steps counted in a ledger of their own.
-fn ready_of<L: Ledger>(agg: &mut Aggregate, delta: Delta, blank: Blank) -> Result<Ready, AllocError>
-    requires name { blank.name ≡ L.name }
-    requires parts { blank.parts ≡ L.parts }
-    requires some { 0 < L.parts }
-    requires rules { first_meta (chain_of_all agg.old) delta ≡ None }
-    ensures base { agg.new.base ≡ agg.old.base }
-    ensures deltas { agg.new.deltas ≡ agg.old.deltas }
-    ensures room { IfOk result (λ r. 0 < agg.new.room) }
-    ensures delta { IfOk result (λ r. r.delta ≡ delta) }
-    ensures ready { IfOk result (IsPrepared agg.old.base agg.old.deltas) }
-{
-    let mut steps = Steps::<L>::begin(blank);
-    agg.prepare(delta, &mut steps)
 }
 
 /// Makes the index ready for the module with a delta that was made ready.
 fn index_ready(
     alloc: Global,
-    agg: &Aggregate,
-    ready: &Ready,
+    joined: &Joined,
+    delta: &ReadyDelta,
     dispatch: &mut Dispatch,
     changed: &[Token],
 ) -> Result<NewDispatch, AllocError>
-    requires ready { IsPrepared agg.now.base agg.now.deltas ready.now }
-    requires stands { StandsForModule dispatch.old (module_of_all agg.now) }
-    requires changed { IsChangedBy (module_of_all agg.now)
-        (extended (chain_of_all agg.now) ready.now.delta).plain changed.now }
+    requires ready { IsReadyFor joined.now delta.now }
+    requires stands { StandsForModule dispatch.old (module_of_all joined.now.rows) }
+    requires changed { IsChangedBy (module_of_all joined.now.rows)
+        (extended (chain_of_all joined.now.rows) delta.now.rows.delta).plain changed.now }
     ensures kept { dispatch.new ≡ with_room dispatch.new.room dispatch.old }
     ensures ready { IfOk result (λ n. IsPreparedFor dispatch.new n
-        (extended (chain_of_all agg.now) ready.now.delta).plain) }
+        (extended (chain_of_all joined.now.rows) delta.now.rows.delta).plain) }
 {
-    let after = agg.after(ready);
-    agg.sound();
+    let after = joined.after(delta);
+    joined.rows().sound();
     after.sound();
-    dispatch.prepare_changed(alloc, agg, &after, changed)
+    dispatch.prepare_changed(alloc, joined.rows(), &after, changed)
 }
 
 impl Parts {
@@ -93,14 +69,12 @@ impl Parts {
             (λ p. followed_in p ≡ record { base = image; deltas = []; debug = pdb; debugs = [] }) }
         ensures parts { IfOk result AreParts }
     {
-        let agg = Aggregate::begin(alloc, image)?;
-        let debug = PdbChain::begin(alloc, pdb)?;
-        agg.sound();
-        let versions = Versions::begin(alloc, &agg, &debug)?;
-        let dispatch = Dispatch::begin(alloc, &agg)?;
+        let joined = Joined::begin(alloc, image, pdb)?;
+        joined.rows().sound();
+        let versions = Versions::begin(alloc, joined.rows(), joined.points())?;
+        let dispatch = Dispatch::begin(alloc, joined.rows())?;
         Ok(Parts {
-            agg,
-            debug,
+            joined,
             versions,
             dispatch,
         })
@@ -113,26 +87,19 @@ impl Parts {
         checked: Checked,
     ) -> Result<Prepared, AllocError>
         requires parts { AreParts self.old }
-        requires follows { IsAcceptedAfter (chain_of_all self.old.agg) checked.delta checked.pdb }
+        requires follows { IsAcceptedAfter (chain_of_all self.old.joined.rows) checked.delta checked.pdb }
         ensures same { SayTheSame self.new self.old }
         ensures ready { IfOk result (IsDeltaReady self.new checked.delta checked.pdb) }
     {
         changed_law();
-        self.agg.sound();
-        let Checked { delta, pdb } = checked;
-        let changed = new_bodies(alloc, &delta)?;
-        let codes = new_codes(alloc, &delta, &pdb)?;
-        let tokens = delta.tokens(alloc)?;
-        self.debug.reserve()?;
-        let told = self.debug.told(alloc, &pdb, &changed)?;
+        self.joined.rows().sound();
+        let codes = new_codes(alloc, &checked.delta, &checked.pdb)?;
+        let tokens = checked.delta.tokens(alloc)?;
         let versions = self.versions.prepare(codes)?;
-        let ready = ready_of::<Brand>(&mut self.agg, delta, Blank::new(1))?;
-        let dispatch = index_ready(alloc, &self.agg, &ready, &mut self.dispatch, &tokens)?;
+        let delta = self.joined.prepare(alloc, checked)?;
+        let dispatch = index_ready(alloc, &self.joined, &delta, &mut self.dispatch, &tokens)?;
         Ok(Prepared {
-            ready,
-            pdb,
-            changed,
-            told,
+            delta,
             versions,
             dispatch,
         })
@@ -141,26 +108,21 @@ impl Parts {
     /// Adds a delta for which all memory is taken. It takes no more and can't fail.
     pub(crate) fn commit(&mut self, prepared: Prepared)
         requires parts { AreParts self.old }
-        requires follows { IsAcceptedAfter (chain_of_all self.old.agg) prepared.ready.delta prepared.pdb }
-        requires ready { IsDeltaReady self.old prepared.ready.delta prepared.pdb prepared }
+        requires ready { IsDeltaReady self.old prepared.delta.rows.delta prepared.delta.pdb prepared }
         ensures followed { followed_in self.new
-            ≡ followed_by (followed_in self.old) (accepted prepared.ready.delta prepared.pdb) }
+            ≡ followed_by (followed_in self.old) (accepted prepared.delta.rows.delta prepared.delta.pdb) }
         ensures parts { AreParts self.new }
-        ensures texts { KeepsTexts (users_of_all self.old.agg) (users_of_all self.new.agg) }
+        ensures texts { KeepsTexts (users_of_all self.old.joined.rows) (users_of_all self.new.joined.rows) }
     {
         codes_law();
         commit_law();
-        self.agg.sound();
+        self.joined.rows().sound();
         let Prepared {
-            ready,
-            pdb,
-            changed,
-            told,
+            delta,
             versions,
             dispatch,
         } = prepared;
-        self.agg.commit(ready);
-        self.debug.add(pdb, changed, told);
+        self.joined.commit(delta);
         self.versions.commit(versions);
         self.dispatch.commit(dispatch);
     }

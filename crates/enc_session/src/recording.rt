@@ -5,17 +5,17 @@ ghost use Rattle.enc_checker.specs.Check.{accepted};
 ghost use Rattle.enc_vm.specs.Looks.{frames_in, state_in};
 ghost use Rattle.enc_vm.specs.Step.{spawn_in};
 ghost use Rattle.enc_vm.specs.Turns.{IsSpawn, machine_turn};
-ghost use Rattle.enc_session.specs.Engine.{IsAcceptedAfter};
-ghost use Rattle.enc_session.specs.Recording.{AreDated, HasStepped, apply_recorded, dates_of, facts_in, judged_recorded, recorded_base, redated, remap_recorded, remapped_in, spawn_recorded, step_recorded, values_in, with_first_date};
+ghost use Rattle.enc_chain.specs.Kept.{IsAcceptedAfter};
+ghost use Rattle.enc_session.specs.Recording.{HaveGenerations, HasStepped, apply_recorded, generations_of, facts_in, judged_recorded, recorded_base, generations_now, remap_recorded, remapped_in, spawn_recorded, step_recorded, values_in, with_first_generation};
 ghost use Rattle.enc_session.specs.RecordingSeen.{generation_at, is_made};
 ghost use Rattle.enc_session.specs.declared.applied.Applied.TheVariants.{Generation, Refused};
 ghost use Rattle.enc_session.specs.Session.{applied_as, files_in, judged_after, remapped_as, turn_end, world_of};
 ghost use Rattle.enc_session.specs.States.{state_text};
 
 use crate::applied::Applied;
-use crate::dates::Dates;
 use crate::engine::Engine;
 use crate::events::{applied_event, begun_events, step_events};
+use crate::frame_generations::FrameGenerations;
 use crate::looks::{FrameFacts, FramePart};
 use crate::newest::Newest;
 use crate::session::{STEP_ROOM, push_step_lines};
@@ -39,14 +39,14 @@ pub struct Recording {
     engine: Engine,
     events: Vec<Event>,
     text: Vec<u8>,
-    dates: Vec<Dates>,
+    generations: Vec<FrameGenerations>,
     newest: Newest,
     limit: u32,
     alloc: Global,
 }
 
 impl Model for Recording {
-    ghost use Rattle.enc_session.specs.Recording.{AreDated, Recorded};
+    ghost use Rattle.enc_session.specs.Recording.{HaveGenerations, Recorded};
     ghost use Rattle.enc_session.specs.RecordingSeen.{AreGenerationsOf, HaveRoomTo};
 
     ghost Value = { Recorded };
@@ -56,12 +56,12 @@ impl Model for Recording {
       machine = r.engine.machine;
       events = r.events.items;
       text = r.text.items;
-      dates = r.dates.items;
+      generations = r.generations.items;
       limit = r.limit;
     } };
 
     ghost invariant = { λ r. HaveRoomTo r.limit r.events × AreGenerationsOf r.engine.followed.deltas r.newest
-        × AreDated r.engine.machine r.dates.items };
+        × HaveGenerations r.engine.machine r.generations.items };
 }
 
 /// How many steps ran, and how the last one ended.
@@ -84,25 +84,26 @@ fn push_events(events: &[Event], all: &mut Vec<Event>)
     };
 }
 
-/// The dates of a task's frames as they are now.
-fn settle(dates: &mut Vec<Dates>, engine: &Engine, newest: &Newest, task: u32)
-    ensures { dates.new.items ≡ slice_set dates.old.items (task - 1)
-        (redated (generation_at newest.now) (frames_in engine.now.machine task) (dates_of dates.old.items task)) }
+/// The generations of a task's frames as they are now.
+fn settle(generations: &mut Vec<FrameGenerations>, engine: &Engine, newest: &Newest, task: u32)
+    ensures { generations.new.items ≡ slice_set generations.old.items (task - 1)
+        (generations_now (generation_at newest.now) (frames_in engine.now.machine task)
+        (generations_of generations.old.items task)) }
 {
     let i = (task as usize).saturating_sub(1);
-    if let Some(dates) = dates.get_mut(i) {
-        dates.settle(engine, newest, task);
+    if let Some(generations) = generations.get_mut(i) {
+        generations.settle(engine, newest, task);
     }
 }
 
-/// The innermost frame of a task has another date.
-fn move_date(dates: &mut Vec<Dates>, task: u32, date: u32)
-    ensures { dates.new.items ≡ slice_set dates.old.items (task - 1)
-        (with_first_date date (dates_of dates.old.items task)) }
+/// The innermost frame of a task has another generation.
+fn move_generation(generations: &mut Vec<FrameGenerations>, task: u32, generation: u32)
+    ensures { generations.new.items ≡ slice_set generations.old.items (task - 1)
+        (with_first_generation generation (generations_of generations.old.items task)) }
 {
     let i = (task as usize).saturating_sub(1);
-    if let Some(dates) = dates.get_mut(i) {
-        dates.move_first(date);
+    if let Some(generations) = generations.get_mut(i) {
+        generations.move_first(generation);
     }
 }
 
@@ -134,7 +135,7 @@ impl Recording {
             engine,
             events,
             text: Vec::new(alloc),
-            dates: Vec::new(alloc),
+            generations: Vec::new(alloc),
             newest: Newest::begin(alloc),
             limit,
             alloc,
@@ -171,16 +172,16 @@ impl Recording {
         ensures few { length self.new.events ≤ length self.old.events + 3 }
         ensures err { OnErr result (self.new ≡ self.old) }
     {
-        let mut dates = Dates::begin(self.alloc)?;
-        self.dates.reserve(1)?;
+        let mut generations = FrameGenerations::begin(self.alloc)?;
+        self.generations.reserve(1)?;
         let end = self.engine.spawn(method)?;
         let SpawnEnd::Task(task) = end else {
             return Ok(end);
         };
         let events = begun_events(&self.engine, method, task);
         push_events(events.as_slice(), &mut self.events);
-        dates.settle(&self.engine, &self.newest, task);
-        self.dates.push_reserved(dates);
+        generations.settle(&self.engine, &self.newest, task);
+        self.generations.push_reserved(generations);
         Ok(end)
     }
 
@@ -205,7 +206,7 @@ impl Recording {
         push_step_lines(&self.engine, task, &seen, end, &mut self.text);
         let events = step_events(task, method, &seen, end);
         push_events(events.as_slice(), &mut self.events);
-        settle(&mut self.dates, &self.engine, &self.newest, task);
+        settle(&mut self.generations, &self.engine, &self.newest, task);
         Ok(end)
     }
 
@@ -284,8 +285,8 @@ impl Recording {
         }
     }
 
-    /// The innermost frame of a task goes on in the newest body of its method, as in a `Session`; its date is that of
-    /// this body. It isn't an event.
+    /// The innermost frame of a task goes on in the newest body of its method, as in a `Session`; its generation is
+    /// that of this body. It isn't an event.
     pub fn remap(&mut self, task: u32, map: &PairList) -> Result<Remapped, AllocError>
         ensures remapped { IfOk result (λ r. r ≡ remapped_as (remapped_in task map.now self.old)) }
         ensures recorded { OnOk result (self.new ≡ remap_recorded task map.now self.old) }
@@ -293,7 +294,7 @@ impl Recording {
     {
         match self.engine.remap(task, map)? {
             Remapped::Moved { method, from, to } => {
-                move_date(&mut self.dates, task, self.newest.at(method));
+                move_generation(&mut self.generations, task, self.newest.at(method));
                 Ok(Remapped::Moved { method, from, to })
             }
             Remapped::Refused(number) => Ok(Remapped::Refused(number)),
@@ -311,18 +312,18 @@ impl Recording {
     pub fn frames(&self, task: u32) -> u32
         ensures frames { result ≡ length (frames_in self.now.machine task) }
         ensures few { result ≤ 1024 }
-        ensures dated { AreDated self.now.machine self.now.dates }
+        ensures generations { HaveGenerations self.now.machine self.now.generations }
     {
         self.engine.depth(task)
     }
 
-    /// The date of the i-th frame of a task, from 0 for the outermost; 0 where there is none.
-    fn date(&self, task: u32, i: u32) -> u32
-        ensures { result ≡ get_or (reverse (dates_of self.now.dates task)) i 0 }
+    /// The generation of the i-th frame of a task, from 0 for the outermost; 0 where there is none.
+    fn generation(&self, task: u32, i: u32) -> u32
+        ensures { result ≡ get_or (reverse (generations_of self.now.generations task)) i 0 }
     {
-        match self.dates.get((task as usize).saturating_sub(1)) {
+        match self.generations.get((task as usize).saturating_sub(1)) {
             None => 0,
-            Some(dates) => dates.at(i),
+            Some(generations) => generations.at(i),
         }
     }
 
@@ -332,7 +333,7 @@ impl Recording {
     pub fn frame(&self, task: u32, i: u32) -> Option<FrameFacts>
         ensures { result ≡ facts_in self.now task i }
     {
-        self.engine.frame(task, i, self.date(task, i))
+        self.engine.frame(task, i, self.generation(task, i))
     }
 
     /// What the i-th frame of a task holds, from 0 for the outermost. None exactly where the task has no such frame.

@@ -31,9 +31,8 @@ pub(crate) const STEP_ROOM: usize = 66;
 /// edited directly: a call enters the newest body of its method, and a frame that is under way goes on in the body, the
 /// texts and the sequence points with which it began, or those of its last remap.
 ///
-/// What a call appends to `out` are the lines of that event, and those of watchers that didn't hear it: such a
-/// watcher is
-/// gone, and the event stands all the same. Without memory the session, its watchers and `out` stay as they are.
+/// What a call appends to `out` are the lines of that event, and those of watchers that didn't hear it: such a watcher
+/// is gone, and the event stands all the same. Without memory the session, its watchers and `out` stay as they are.
 #[derive(Drop)]
 pub struct Session<W: Watcher> {
     engine: Engine,
@@ -98,11 +97,7 @@ impl<W: Watcher> Session<W> {
     pub fn attach(&mut self, watcher: W) -> Result<u32, W>
         requires { self.old.seated.given + 1 < 2 ^ 32 }
         ensures number { IfOk result (λ number. number ≡ self.old.seated.given + 1) }
-        ensures ok { OnOk result (self.new ≡ with_seated (attached (record {
-          kind = W.kind_of watcher;
-          limit = W.limit watcher;
-          heard = W.heard watcher;
-        }) self.old.seated) self.old) }
+        ensures ok { OnOk result (self.new ≡ with_seated (attached (W.watching watcher) self.old.seated) self.old) }
         ensures back { IfErr result (λ back. back ≡ watcher) }
         ensures err { OnErr result (self.new ≡ self.old) }
     {
@@ -111,7 +106,7 @@ impl<W: Watcher> Session<W> {
 
     /// Detaches the watcher with a number and hands it back; None exactly where none has it. It hears nothing more.
     pub fn detach(&mut self, number: u32) -> Option<W>
-        ensures taken { option_map (λ w. record { kind = W.kind_of w; limit = W.limit w; heard = W.heard w }) result
+        ensures taken { option_map W.watching result
             ≡ option_map (λ (s : Seat). s.watching) (seat_at number self.old.seated.seats) }
         ensures left { self.new ≡ with_seated
             (record { seats = without number self.old.seated.seats; given = self.old.seated.given }) self.old }

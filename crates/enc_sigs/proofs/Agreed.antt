@@ -7,10 +7,10 @@ use Rattle.enc_base.specs.Token.{nil}
 use Rattle.enc_base.specs.declared.token.Token.{Token}
 use Rattle.enc_sigs.specs.declared.kind.SigKind.{SigKind}
 use Rattle.enc_sigs.specs.declared.kind.SigKind.TheVariants.{Method, Field, Locals, Property, TypeSpec, MethodSpec}
-use Rattle.enc_sigs.specs.declared.form.Form.{Form}
-use Rattle.enc_sigs.specs.declared.form.Form.TheVariants as form
-use Rattle.enc_sigs.specs.declared.form.Numeral.{Numeral}
-use Rattle.enc_sigs.specs.declared.form.Numeral.TheVariants.{Size, Bound}
+use Rattle.enc_sigs.specs.declared.type_form.TypeForm.{TypeForm}
+use Rattle.enc_sigs.specs.declared.type_form.TypeForm.TheVariants as form
+use Rattle.enc_sigs.specs.declared.type_form.Numeral.{Numeral}
+use Rattle.enc_sigs.specs.declared.type_form.Numeral.TheVariants.{Size, Bound}
 use Rattle.enc_sigs.specs.Tree.{Tree, SigTree}
 use Rattle.enc_sigs.specs.Grammar.{upon, many, more_in, list_in, tree, numbered_in, numeral_in, numerals_in, byte_in, wrapped_in, named_in, modified_in, array_in, instance_in, pointer_in, method_in, calling_in, parts_in, params, marked_in, accessed_in, begins, token_in, is_coded, form_of, formed_in, elem_in, type_in, front_in, all_of, unless_more, sig_in}
 use Rattle.enc_base.specs.Readers.{Reader, giving, both, number_in}
@@ -229,7 +229,7 @@ pointer_step same b r walk plain step = giving_step (λ (p : (ℕ × ℕ) × Lis
 bare_agree : (same : Token → Token → Bool) (b : ℕ) → true ≡ trees_agree same (tree b nil 0 []) (tree b nil 0 [])
 bare_agree same b = sym (tree_agree same b nil nil 0 0 [] [] ∙ none_agree same)
 
-formed_step : (same : Token → Token → Bool) (f : Form) (b : ℕ) (r : Reader Tree) (walk : Walk) → IsPlain r → InStep (trees_agree same) r walk → InStep (trees_agree same) (formed_in is_coded r f b) (formed_walk same walk f)
+formed_step : (same : Token → Token → Bool) (f : TypeForm) (b : ℕ) (r : Reader Tree) (walk : Walk) → IsPlain r → InStep (trees_agree same) r walk → InStep (trees_agree same) (formed_in is_coded r f b) (formed_walk same walk f)
 unfolding formed_in formed_walk
 formed_step same form.Bare b r walk plain step x y = ap (λ t. if t then Some (x, y) else None) (bare_agree same b)
 formed_step same form.Wrapped b r walk plain step x y = wrapped_step same b r walk step x y
@@ -241,7 +241,7 @@ formed_step same form.Instance b r walk plain step x y = instance_step same b r 
 formed_step same form.Pointer b r walk plain step x y = pointer_step same b r walk plain step x y
 
 -- a type's element is its first byte
-pub formed_element : (good : ℕ → Bool) (f : Form) (b : ℕ) (r : Reader Tree) (bytes : List ℕ) (p : Tree × List ℕ) → formed_in good r f b bytes ≡ Some p → p.0.element ≡ b
+pub formed_element : (good : ℕ → Bool) (f : TypeForm) (b : ℕ) (r : Reader Tree) (bytes : List ℕ) (p : Tree × List ℕ) → formed_in good r f b bytes ≡ Some p → p.0.element ≡ b
 unfolding formed_in wrapped_in named_in modified_in numbered_in array_in instance_in pointer_in
 formed_element good form.Bare b r bytes p e = let g : (tree b nil 0 [], bytes) ≡ p = cc in subst (λ x. x.0.element ≡ b) g refl
 formed_element good form.Wrapped b r bytes p e = map_known (λ t. t.element ≡ b) (λ x. tree b nil 0 (x ∷ [])) (r bytes) p (λ q f. refl) e
@@ -252,15 +252,15 @@ formed_element good form.Array b r bytes p e = map_known (λ t. t.element ≡ b)
 formed_element good form.Instance b r bytes p e = map_known (λ t. t.element ≡ b) (λ (p : ℕ × (Token × List Tree)). tree b p.1.0 p.0 p.1.1) (both (byte_in (λ c. c == 0x11 || c == 0x12)) (both (token_in good) (list_in r)) bytes) p (λ q f. refl) e
 formed_element good form.Pointer b r bytes p e = map_known (λ t. t.element ≡ b) (λ (p : (ℕ × ℕ) × List Tree). tree b nil p.0.0 (tree 0 nil p.0.1 [] ∷ p.1)) (method_in r bytes) p (λ q f. refl) e
 
-pub opened_element : (good : ℕ → Bool) (o : Option Form) (b : ℕ) (r : Reader Tree) (bytes : List ℕ) (p : Tree × List ℕ) → option_and_then {T = Form} (λ f. formed_in good r f b bytes) o ≡ Some p → p.0.element ≡ b
+pub opened_element : (good : ℕ → Bool) (o : Option TypeForm) (b : ℕ) (r : Reader Tree) (bytes : List ℕ) (p : Tree × List ℕ) → option_and_then {T = TypeForm} (λ f. formed_in good r f b bytes) o ≡ Some p → p.0.element ≡ b
 opened_element good None b r bytes p e = absurd (cc)
 opened_element good (Some f) b r bytes p e = formed_element good f b r bytes p e
 
-no_sentinel : (good : ℕ → Bool) (b : ℕ) (r : Reader Tree) (bytes : List ℕ) (p : Tree × List ℕ) (t : Bool) → option_and_then {T = Form} (λ f. formed_in good r f b bytes) (form_of b) ≡ Some p → b == 0x41 ≡ t → t ≡ false
+no_sentinel : (good : ℕ → Bool) (b : ℕ) (r : Reader Tree) (bytes : List ℕ) (p : Tree × List ℕ) (t : Bool) → option_and_then {T = TypeForm} (λ f. formed_in good r f b bytes) (form_of b) ≡ Some p → b == 0x41 ≡ t → t ≡ false
 unfolding form_of
 no_sentinel good b r bytes p false e f = refl
 no_sentinel good b r bytes p true e f =
-    let g = subst (λ (n : ℕ). option_and_then {T = Form} (λ f. formed_in good r f b bytes) (form_of n) ≡ Some p) (eqb-true b 0x41 f) e in
+    let g = subst (λ (n : ℕ). option_and_then {T = TypeForm} (λ f. formed_in good r f b bytes) (form_of n) ≡ Some p) (eqb-true b 0x41 f) e in
     absurd (cc)
 
 pub elem_plain : (good : ℕ → Bool) (depth : ℕ) → IsPlain (elem_in good depth)
@@ -271,18 +271,18 @@ elem_plain good (suc depth) (b ∷ rest) p e =
     let f = no_sentinel good b (elem_in good depth) rest p (b == 0x41) e refl in
     (f, rw (opened_element good (form_of b) b (elem_in good depth) rest p e) f)
 
-opened_step : (same : Token → Token → Bool) (o : Option Form) (b : ℕ) (r : Reader Tree) (walk : Walk) (x y : List ℕ) → IsPlain r → InStep (trees_agree same) r walk → option_and_then {T = Form} (λ f. formed_walk same walk f x y) o ≡ paired (trees_agree same) (option_and_then {T = Form} (λ f. formed_in is_coded r f b x) o) (option_and_then {T = Form} (λ f. formed_in is_coded r f b y) o)
+opened_step : (same : Token → Token → Bool) (o : Option TypeForm) (b : ℕ) (r : Reader Tree) (walk : Walk) (x y : List ℕ) → IsPlain r → InStep (trees_agree same) r walk → option_and_then {T = TypeForm} (λ f. formed_walk same walk f x y) o ≡ paired (trees_agree same) (option_and_then {T = TypeForm} (λ f. formed_in is_coded r f b x) o) (option_and_then {T = TypeForm} (λ f. formed_in is_coded r f b y) o)
 opened_step same None b r walk x y plain step = refl
 opened_step same (Some f) b r walk x y plain step = formed_step same f b r walk plain step x y
 
 elements_differ : (same : Token → Token → Bool) (x y : Tree) (n m : ℕ) → x.element ≡ n → y.element ≡ m → n == m ≡ false → trees_agree same x y ≡ false
 elements_differ same x y n m e f g = rw (e, f, g) refl
 
-elem_tests : (same : Token → Token → Bool) (n m : ℕ) (r : Reader Tree) (walk : Walk) (a b : List ℕ) (t : Bool) → IsPlain r → InStep (trees_agree same) r walk → n == m ≡ t → (if t then option_and_then {T = Form} (λ f. formed_walk same walk f a b) (form_of n) else None) ≡ paired (trees_agree same) (option_and_then {T = Form} (λ f. formed_in is_coded r f n a) (form_of n)) (option_and_then {T = Form} (λ f. formed_in is_coded r f m b) (form_of m))
+elem_tests : (same : Token → Token → Bool) (n m : ℕ) (r : Reader Tree) (walk : Walk) (a b : List ℕ) (t : Bool) → IsPlain r → InStep (trees_agree same) r walk → n == m ≡ t → (if t then option_and_then {T = TypeForm} (λ f. formed_walk same walk f a b) (form_of n) else None) ≡ paired (trees_agree same) (option_and_then {T = TypeForm} (λ f. formed_in is_coded r f n a) (form_of n)) (option_and_then {T = TypeForm} (λ f. formed_in is_coded r f m b) (form_of m))
 elem_tests same n m r walk a b true plain step e =
-    let P : ℕ → Type 0 = λ k. option_and_then {T = Form} (λ f. formed_walk same walk f a b) (form_of n) ≡ paired (trees_agree same) (option_and_then {T = Form} (λ f. formed_in is_coded r f n a) (form_of n)) (option_and_then {T = Form} (λ f. formed_in is_coded r f k b) (form_of k)) in
+    let P : ℕ → Type 0 = λ k. option_and_then {T = TypeForm} (λ f. formed_walk same walk f a b) (form_of n) ≡ paired (trees_agree same) (option_and_then {T = TypeForm} (λ f. formed_in is_coded r f n a) (form_of n)) (option_and_then {T = TypeForm} (λ f. formed_in is_coded r f k b) (form_of k)) in
     subst P (eqb-true n m e) (opened_step same (form_of n) n r walk a b plain step)
-elem_tests same n m r walk a b false plain step e = unlike (trees_agree same) (option_and_then {T = Form} (λ f. formed_in is_coded r f n a) (form_of n)) (option_and_then {T = Form} (λ f. formed_in is_coded r f m b) (form_of m)) (λ p q g h. elements_differ same p.0 q.0 n m (opened_element is_coded (form_of n) n r a p g) (opened_element is_coded (form_of m) m r b q h) e)
+elem_tests same n m r walk a b false plain step e = unlike (trees_agree same) (option_and_then {T = TypeForm} (λ f. formed_in is_coded r f n a) (form_of n)) (option_and_then {T = TypeForm} (λ f. formed_in is_coded r f m b) (form_of m)) (λ p q g h. elements_differ same p.0 q.0 n m (opened_element is_coded (form_of n) n r a p g) (opened_element is_coded (form_of m) m r b q h) e)
 
 pub elem_step : (same : Token → Token → Bool) (depth : ℕ) → InStep (trees_agree same) (elem_in is_coded depth) (elem_walk same depth)
 unfolding elem_in elem_walk

@@ -6,10 +6,10 @@ use Rattle.enc_base.specs.Token.{nil}
 use Rattle.enc_base.specs.declared.token.Token.{Token}
 use Rattle.enc_sigs.specs.declared.kind.SigKind.{SigKind}
 use Rattle.enc_sigs.specs.declared.kind.SigKind.TheVariants.{Method, Field, Locals, Property, TypeSpec, MethodSpec}
-use Rattle.enc_sigs.specs.declared.form.Form.{Form}
-use Rattle.enc_sigs.specs.declared.form.Form.TheVariants as form
-use Rattle.enc_sigs.specs.declared.form.Numeral.{Numeral}
-use Rattle.enc_sigs.specs.declared.form.Numeral.TheVariants.{Size, Bound}
+use Rattle.enc_sigs.specs.declared.type_form.TypeForm.{TypeForm}
+use Rattle.enc_sigs.specs.declared.type_form.TypeForm.TheVariants as form
+use Rattle.enc_sigs.specs.declared.type_form.Numeral.{Numeral}
+use Rattle.enc_sigs.specs.declared.type_form.Numeral.TheVariants.{Size, Bound}
 use Rattle.enc_sigs.specs.Tree.{Tree, SigTree, forest_of}
 use Rattle.enc_sigs.specs.Grammar.{upon, many, more_in, list_in, tree, numbered_in, numeral_in, numerals_in, byte_in, wrapped_in, named_in, modified_in, array_in, instance_in, pointer_in, method_in, calling_in, parts_in, params, marked_in, accessed_in, begins, token_in, form_of, formed_in, elem_in, type_in, front_in, all_of, unless_more, sig_in}
 use Rattle.enc_base.specs.Readers.{Reader, giving, both, number_in}
@@ -105,7 +105,7 @@ array_fits : (d b : ℕ) (r : Reader Tree) → Known (one_fits d) r → Known (k
 unfolding array_in
 array_fits d b r first bytes p e = map_known (kids_fit d) (λ (p : Tree × (ℕ × (Tree × Tree))). tree b nil p.1.0 (p.0 ∷ p.1.1.0 ∷ p.1.1.1 ∷ [])) (both r (both number_in (both (numerals_in Size) (numerals_in Bound))) bytes) p (λ q f. both_known (λ (x : Tree × (ℕ × (Tree × Tree))). all_fit d (x.0 ∷ x.1.1.0 ∷ x.1.1.1 ∷ [])) (both number_in (both (numerals_in Size) (numerals_in Bound))) (r bytes) q (λ x rest u g h. both_known (λ (y : ℕ × (Tree × Tree)). all_fit d (x ∷ y.1.0 ∷ y.1.1 ∷ [])) (both (numerals_in Size) (numerals_in Bound)) (number_in rest) u (λ n mid v k l. first_known (one_fits d) (one_fits d) (λ (z : Tree × Tree). all_fit d (x ∷ z.0 ∷ z.1 ∷ [])) (numerals_in Size) (numerals_in Bound) (λ s t i j. more_fit d x (s ∷ t ∷ []) (first bytes (x, rest) g) (more_fit d s (t ∷ []) i (single_fits d t j))) (numerals_fit d Size) (numerals_fit d Bound) mid v l) h) f) e
 
-formed_fits : (good : ℕ → Bool) (d b : ℕ) (f : Form) (r : Reader Tree) → Known (one_fits d) r → Known (kids_fit d) (formed_in good r f b)
+formed_fits : (good : ℕ → Bool) (d b : ℕ) (f : TypeForm) (r : Reader Tree) → Known (one_fits d) r → Known (kids_fit d) (formed_in good r f b)
 unfolding formed_in named_in modified_in numbered_in instance_in pointer_in
 formed_fits good d b form.Bare r first bytes p e = let f : (tree b nil 0 [], bytes) ≡ p = cc in subst (λ (x : Tree × List ℕ). kids_fit d x.0) f (none_fit d)
 formed_fits good d b form.Wrapped r first bytes p e = wrapped_fits d b r first bytes p e
@@ -117,7 +117,7 @@ formed_fits good d b form.Instance r first bytes p e = map_known (kids_fit d) (�
 formed_fits good d b form.Pointer r first bytes p e = map_known (kids_fit d) (λ (p : (ℕ × ℕ) × List Tree). tree b nil p.0.0 (tree 0 nil p.0.1 [] ∷ p.1)) (method_in r bytes) p (λ q f. more_fit d (tree 0 nil q.0.0.1 []) q.0.1 (leaf_fits d q.0.0.1) (method_known d r first bytes q f)) e
 
 -- a first byte of a type is neither 0 nor a sentinel
-no_form : (n : ℕ) (f : Form) (s t : Bool) → form_of n ≡ Some f → n == 0 ≡ s → n == 0x41 ≡ t → (s || t) ≡ false
+no_form : (n : ℕ) (f : TypeForm) (s t : Bool) → form_of n ≡ Some f → n == 0 ≡ s → n == 0x41 ≡ t → (s || t) ≡ false
 unfolding form_of
 no_form n f true t is e g =
     let h = subst (λ (k : ℕ). form_of k ≡ Some f) (eqb-true n 0 e) is in
@@ -127,10 +127,10 @@ no_form n f false true is e g =
     absurd (cc)
 no_form n f false false is e g = refl
 
-level_fits : (d n : ℕ) (f : Form) (x : Tree) → form_of n ≡ Some f → x.element ≡ n → kids_fit d x → one_fits (suc d) x
+level_fits : (d n : ℕ) (f : TypeForm) (x : Tree) → form_of n ≡ Some f → x.element ≡ n → kids_fit d x → one_fits (suc d) x
 level_fits d n f x is e fit = ap (λ t. if t then fits_depth x.kids (suc d) else fits_depth x.kids d) (ap (λ k. k == 0 || k == 0x41) e ∙ no_form n f (n == 0) (n == 0x41) is refl refl) ∙ fit
 
-opened_fits : (good : ℕ → Bool) (d n : ℕ) (o : Option Form) (bytes : List ℕ) (p : Tree × List ℕ) → Known (one_fits d) (elem_in good d) → form_of n ≡ o → option_and_then {T = Form} (λ f. formed_in good (elem_in good d) f n bytes) o ≡ Some p → one_fits (suc d) p.0
+opened_fits : (good : ℕ → Bool) (d n : ℕ) (o : Option TypeForm) (bytes : List ℕ) (p : Tree × List ℕ) → Known (one_fits d) (elem_in good d) → form_of n ≡ o → option_and_then {T = TypeForm} (λ f. formed_in good (elem_in good d) f n bytes) o ≡ Some p → one_fits (suc d) p.0
 opened_fits good d n None bytes p first is e = absurd (cc)
 opened_fits good d n (Some f) bytes p first is e = level_fits d n f p.0 is (formed_element good f n (elem_in good d) bytes p e) (formed_fits good d n f (elem_in good d) first bytes p e)
 

@@ -5,8 +5,8 @@ use Rattle.std.proofs.lemmas.Bool.Decides.{nat_tests}
 use Rattle.enc_base.specs.Numbers.{compressed}
 use Rattle.enc_base.specs.declared.token.Token.{Token}
 use Rattle.enc_sigs.specs.declared.kind.SigKind.TheVariants.{Field, Locals}
-use Rattle.enc_sigs.specs.declared.form.Form.{Form}
-use Rattle.enc_sigs.specs.declared.form.Form.TheVariants as form
+use Rattle.enc_sigs.specs.declared.type_form.TypeForm.{TypeForm}
+use Rattle.enc_sigs.specs.declared.type_form.TypeForm.TheVariants as form
 use Rattle.enc_sigs.specs.Tree.{Tree, SigTree}
 use Rattle.enc_sigs.specs.Grammar.{list_in, tree, byte_in, is_coded, token_named, token_in, named_in, form_of, formed_in, elem_in, type_in, front_in, unless_more, all_of, sig_in}
 use Rattle.enc_base.specs.Readers.{Reader, both, number_in}
@@ -140,17 +140,17 @@ named_first good b bytes x rest h =
     let e : g.0 ≡ x.token = ap (λ (y : Tree). y.token) g.2 in
     rw (← e) g.1
 
-named_form : (b : ℕ) (f : Form) → b ≡ 0x11 → form_of b ≡ Some f → f ≡ form.Named
+named_form : (b : ℕ) (f : TypeForm) → b ≡ 0x11 → form_of b ≡ Some f → f ≡ form.Named
 unfolding form_of
 named_form b f e is = let h = rw e at is in cc
 
-by_form : (good : ℕ → Bool) (r : Reader Tree) (f : Form) (b : ℕ) (bytes : List ℕ) (x : Tree) (rest : List ℕ) → f ≡ form.Named
+by_form : (good : ℕ → Bool) (r : Reader Tree) (f : TypeForm) (b : ℕ) (bytes : List ℕ) (x : Tree) (rest : List ℕ) → f ≡ form.Named
     → formed_in good r f b bytes ≡ Some (x, rest) → named_in good b bytes ≡ Some (x, rest)
 unfolding formed_in
 by_form good r f b bytes x rest e h = rw e at h
 
-opened : (good : ℕ → Bool) (r : Reader Tree) (o : Option Form) (b : ℕ) (bytes : List ℕ) (x : Tree) (rest : List ℕ) → form_of b ≡ o
-    → option_and_then {T = Form} (λ f. formed_in good r f b bytes) o ≡ Some (x, rest) → TypeRead good (b ∷ bytes) x rest
+opened : (good : ℕ → Bool) (r : Reader Tree) (o : Option TypeForm) (b : ℕ) (bytes : List ℕ) (x : Tree) (rest : List ℕ) → form_of b ≡ o
+    → option_and_then {T = TypeForm} (λ f. formed_in good r f b bytes) o ≡ Some (x, rest) → TypeRead good (b ∷ bytes) x rest
 opened good r None b bytes x rest is h = absurd cc
 opened good r (Some f) b bytes x rest is h = record {
   element = b;

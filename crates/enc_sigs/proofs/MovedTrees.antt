@@ -3,8 +3,8 @@ use Rattle.std.proofs.Common.{◌≡◌, ℕ, zero, suc, ◌-◌, ◌<◌, ◌%�
 use Rattle.std.proofs.Math.Seq.{take-length}
 use Rattle.std.specs.Prelude.{slice_get, IfOk, Result, Ok, Err, if◌then◌else◌}
 use Rattle.enc_base.specs.declared.token.Token.{Token}
-use Rattle.enc_sigs.specs.declared.form.Form.{Form}
-use Rattle.enc_sigs.specs.declared.form.Numeral.{Numeral}
+use Rattle.enc_sigs.specs.declared.type_form.TypeForm.{TypeForm}
+use Rattle.enc_sigs.specs.declared.type_form.Numeral.{Numeral}
 use Rattle.enc_sigs.specs.Grammar.{form_of}
 use Rattle.enc_sigs.specs.Tree.{Forest, none, more, Tree, SigTree, trees, forest_of, trees_of}
 use Rattle.enc_sigs.specs.Spelling.{numeral_bytes, each_numeral, numerals_bytes, numerals_of, generics_bytes, parts_bytes, pointer_bytes, formed_bytes, spellings, tree_bytes}
@@ -93,12 +93,12 @@ unfolding sig_moved
 same_sig s = ap (λ ts. record { form = s.form; kind = s.kind; generics = s.generics; parts = ts }) (same_trees s.parts)
 
 -- what stands behind its first byte
-abbrev within_moved : (Token → Token) → Option Form → Tree → List ℕ
+abbrev within_moved : (Token → Token) → Option TypeForm → Tree → List ℕ
 within_moved f o t =
     formed_bytes o (if form_has_token o then f t.token else t.token) t.number (trees (forest_moved f t.kids)) (spellings (forest_moved f t.kids))
 
 -- a type: its first byte and what stands behind it
-pub elem_written : {T E : Type 0} (r : Result T E) (f : Token → Token) (t : Tree) (o : Option Form) (e : ℕ) (a b new : List ℕ)
+pub elem_written : {T E : Type 0} (r : Result T E) (f : Token → Token) (t : Tree) (o : Option TypeForm) (e : ℕ) (a b new : List ℕ)
     → e ≡ t.element → o ≡ form_of e → b ≡ a ++ e ∷ []
     → IfOk r (λ _. new ≡ b ++ within_moved f o t)
     → IfOk r (λ _. new ≡ a ++ tree_bytes (tree_moved f t))

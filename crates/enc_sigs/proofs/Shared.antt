@@ -6,10 +6,10 @@ use Rattle.enc_base.specs.Token.{is_token}
 use Rattle.enc_base.specs.declared.token.Token.{Token}
 use Rattle.enc_sigs.specs.declared.kind.SigKind.{SigKind}
 use Rattle.enc_sigs.specs.declared.kind.SigKind.TheVariants.{Method, Field, Locals, Property, TypeSpec, MethodSpec}
-use Rattle.enc_sigs.specs.declared.form.Form.{Form}
-use Rattle.enc_sigs.specs.declared.form.Form.TheVariants as form
-use Rattle.enc_sigs.specs.declared.form.Numeral.{Numeral}
-use Rattle.enc_sigs.specs.declared.form.Numeral.TheVariants.{Size, Bound}
+use Rattle.enc_sigs.specs.declared.type_form.TypeForm.{TypeForm}
+use Rattle.enc_sigs.specs.declared.type_form.TypeForm.TheVariants as form
+use Rattle.enc_sigs.specs.declared.type_form.Numeral.{Numeral}
+use Rattle.enc_sigs.specs.declared.type_form.Numeral.TheVariants.{Size, Bound}
 use Rattle.enc_sigs.specs.Grammar.{byte_in, numeral_in, token_in, is_coded, form_of, calling_in, begins}
 use Rattle.enc_base.specs.Readers.{Reader, number_in}
 use Rattle.enc_sigs.specs.Agree.{tokens_agree}
@@ -182,7 +182,7 @@ method_shares one s step plain =
     onward_shares calling_walk (upon_alike number_in (λ n. onward one (params_walk one n))) calling_shape (upon_shape number_in (λ n. in_turn s (params_shape s n))) calling_shares
     (upon_shares number_in (λ n. onward one (params_walk one n)) (λ n. in_turn s (params_shape s n)) (λ n. onward_shares one (params_walk one n) s (params_shape s n) step (params_shares one s n step plain)))
 
-formed_shares : (same : Token → Token → Bool) (key : Token → Mix) (f : Form) (one : Walk) (s : Shaping) → HaveOneKey same key → Shares one s → IsPlainShape s → Shares (formed_walk same one f) (formed_shape key s f)
+formed_shares : (same : Token → Token → Bool) (key : Token → Mix) (f : TypeForm) (one : Walk) (s : Shaping) → HaveOneKey same key → Shares one s → IsPlainShape s → Shares (formed_walk same one f) (formed_shape key s f)
 unfolding formed_walk formed_shape
 formed_shares same key form.Bare one s keys step plain = same_shares
 formed_shares same key form.Wrapped one s keys step plain = step
@@ -193,11 +193,11 @@ formed_shares same key form.Array one s keys step plain = array_shares one s ste
 formed_shares same key form.Instance one s keys step plain = instance_shares same key one s keys step
 formed_shares same key form.Pointer one s keys step plain = method_shares one s step plain
 
-no_sentinel : (key : Token → Mix) (s : Shaping) (b : ℕ) (h : Mix) (rest : List ℕ) (p : Mix × List ℕ) (t : Bool) → option_and_then {T = Form} (λ f. formed_shape key s f h rest) (form_of b) ≡ Some p → b == 0x41 ≡ t → t ≡ false
+no_sentinel : (key : Token → Mix) (s : Shaping) (b : ℕ) (h : Mix) (rest : List ℕ) (p : Mix × List ℕ) (t : Bool) → option_and_then {T = TypeForm} (λ f. formed_shape key s f h rest) (form_of b) ≡ Some p → b == 0x41 ≡ t → t ≡ false
 unfolding form_of
 no_sentinel key s b h rest p false e f = refl
 no_sentinel key s b h rest p true e f =
-    let g = subst (λ (n : ℕ). option_and_then {T = Form} (λ f. formed_shape key s f h rest) (form_of n) ≡ Some p) (eqb-true b 0x41 f) e in
+    let g = subst (λ (n : ℕ). option_and_then {T = TypeForm} (λ f. formed_shape key s f h rest) (form_of n) ≡ Some p) (eqb-true b 0x41 f) e in
     absurd (cc)
 
 elem_plain : (key : Token → Mix) (depth : ℕ) → IsPlainShape (elem_shape key depth)
@@ -206,14 +206,14 @@ elem_plain key zero h bytes p e = absurd (cc)
 elem_plain key (suc depth) h [] p e = absurd (cc)
 elem_plain key (suc depth) h (b ∷ rest) p e = no_sentinel key (elem_shape key depth) b (mixed h b) rest p (b == 0x41) e refl
 
-opened_shares : (same : Token → Token → Bool) (key : Token → Mix) (o : Option Form) (one : Walk) (s : Shaping) (h : Mix) (a b : List ℕ) (x : List ℕ × List ℕ) → HaveOneKey same key → Shares one s → IsPlainShape s → option_and_then {T = Form} (λ f. formed_walk same one f a b) o ≡ Some x → IsShared (option_and_then {T = Form} (λ f. formed_shape key s f h a) o) (option_and_then {T = Form} (λ f. formed_shape key s f h b) o) x
+opened_shares : (same : Token → Token → Bool) (key : Token → Mix) (o : Option TypeForm) (one : Walk) (s : Shaping) (h : Mix) (a b : List ℕ) (x : List ℕ × List ℕ) → HaveOneKey same key → Shares one s → IsPlainShape s → option_and_then {T = TypeForm} (λ f. formed_walk same one f a b) o ≡ Some x → IsShared (option_and_then {T = TypeForm} (λ f. formed_shape key s f h a) o) (option_and_then {T = TypeForm} (λ f. formed_shape key s f h b) o) x
 opened_shares same key None one s h a b x keys step plain e = absurd (cc)
 opened_shares same key (Some f) one s h a b x keys step plain e = formed_shares same key f one s keys step plain h a b x e
 
-elem_tests : (same : Token → Token → Bool) (key : Token → Mix) (one : Walk) (s : Shaping) (h : Mix) (n m : ℕ) (a b : List ℕ) (x : List ℕ × List ℕ) (t : Bool) → HaveOneKey same key → Shares one s → IsPlainShape s → n == m ≡ t → (if t then option_and_then {T = Form} (λ f. formed_walk same one f a b) (form_of n) else None) ≡ Some x → IsShared (option_and_then {T = Form} (λ f. formed_shape key s f (mixed h n) a) (form_of n)) (option_and_then {T = Form} (λ f. formed_shape key s f (mixed h m) b) (form_of m)) x
+elem_tests : (same : Token → Token → Bool) (key : Token → Mix) (one : Walk) (s : Shaping) (h : Mix) (n m : ℕ) (a b : List ℕ) (x : List ℕ × List ℕ) (t : Bool) → HaveOneKey same key → Shares one s → IsPlainShape s → n == m ≡ t → (if t then option_and_then {T = TypeForm} (λ f. formed_walk same one f a b) (form_of n) else None) ≡ Some x → IsShared (option_and_then {T = TypeForm} (λ f. formed_shape key s f (mixed h n) a) (form_of n)) (option_and_then {T = TypeForm} (λ f. formed_shape key s f (mixed h m) b) (form_of m)) x
 elem_tests same key one s h n m a b x false keys step plain is e = absurd (cc)
 elem_tests same key one s h n m a b x true keys step plain is e =
-    let P : ℕ → Type 0 = λ k. IsShared (option_and_then {T = Form} (λ f. formed_shape key s f (mixed h n) a) (form_of n)) (option_and_then {T = Form} (λ f. formed_shape key s f (mixed h k) b) (form_of k)) x in
+    let P : ℕ → Type 0 = λ k. IsShared (option_and_then {T = TypeForm} (λ f. formed_shape key s f (mixed h n) a) (form_of n)) (option_and_then {T = TypeForm} (λ f. formed_shape key s f (mixed h k) b) (form_of k)) x in
     subst P (eqb-true n m is) (opened_shares same key (form_of n) one s (mixed h n) a b x keys step plain e)
 
 elem_shares : (same : Token → Token → Bool) (key : Token → Mix) (depth : ℕ) → HaveOneKey same key → Shares (elem_walk same depth) (elem_shape key depth)

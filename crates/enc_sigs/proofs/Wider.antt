@@ -4,9 +4,9 @@ use Rattle.std.specs.Prelude.{◌==◌, ◌||◌, option_map, option_and_then, i
 use Rattle.enc_base.specs.declared.token.Token.{Token}
 use Rattle.enc_sigs.specs.declared.kind.SigKind.{SigKind}
 use Rattle.enc_sigs.specs.declared.kind.SigKind.TheVariants.{Method, Field, Locals, Property, TypeSpec, MethodSpec}
-use Rattle.enc_sigs.specs.declared.form.Form.{Form}
-use Rattle.enc_sigs.specs.declared.form.Form.TheVariants as form
-use Rattle.enc_sigs.specs.declared.form.Numeral.TheVariants.{Size, Bound}
+use Rattle.enc_sigs.specs.declared.type_form.TypeForm.{TypeForm}
+use Rattle.enc_sigs.specs.declared.type_form.TypeForm.TheVariants as form
+use Rattle.enc_sigs.specs.declared.type_form.Numeral.TheVariants.{Size, Bound}
 use Rattle.enc_sigs.specs.Tree.{Tree, SigTree}
 use Rattle.enc_base.specs.Token.{nil}
 use Rattle.enc_sigs.specs.Grammar.{upon, many, list_in, byte_in, token_in, token_named, tree, form_of, wrapped_in, named_in, modified_in, numbered_in, numerals_in, array_in, instance_in, begins, more_in, marked_in, params, calling_in, parts_in, method_in, pointer_in, formed_in, elem_in, type_in, accessed_in, front_in, all_of, sig_in}
@@ -127,7 +127,7 @@ accessed_keeps : (r s : Reader Tree) → Keeps r s → Keeps (accessed_in r) (ac
 unfolding accessed_in
 accessed_keeps r s keep = giving_keeps (λ (p : ℕ × (Tree × List Tree)). p.1.0 ∷ p.1.1) (upon number_in (λ n. both r (many r n))) (upon number_in (λ n. both s (many s n))) (upon_keeps number_in (λ n. both r (many r n)) (λ n. both s (many s n)) (λ n. both_keeps r s (many r n) (many s n) keep (many_keeps r s n keep)))
 
-formed_keeps : (good test : ℕ → Bool) (r s : Reader Tree) (f : Form) (b : ℕ) → Wider good test → Keeps r s → Keeps (formed_in good r f b) (formed_in test s f b)
+formed_keeps : (good test : ℕ → Bool) (r s : Reader Tree) (f : TypeForm) (b : ℕ) → Wider good test → Keeps r s → Keeps (formed_in good r f b) (formed_in test s f b)
 unfolding formed_in
 formed_keeps good test r s form.Bare b wider keep = same_keeps (λ bytes. Some (tree b nil 0 [], bytes))
 formed_keeps good test r s form.Wrapped b wider keep = wrapped_keeps r s b keep
@@ -138,7 +138,7 @@ formed_keeps good test r s form.Array b wider keep = array_keeps r s b keep
 formed_keeps good test r s form.Instance b wider keep = instance_keeps good test r s b wider keep
 formed_keeps good test r s form.Pointer b wider keep = pointer_keeps r s b keep
 
-opened_keeps : (good test : ℕ → Bool) (r s : Reader Tree) (o : Option Form) (b : ℕ) (rest : List ℕ) (p : Tree × List ℕ) → Wider good test → Keeps r s → option_and_then {T = Form} (λ f. formed_in good r f b rest) o ≡ Some p → option_and_then {T = Form} (λ f. formed_in test s f b rest) o ≡ Some p
+opened_keeps : (good test : ℕ → Bool) (r s : Reader Tree) (o : Option TypeForm) (b : ℕ) (rest : List ℕ) (p : Tree × List ℕ) → Wider good test → Keeps r s → option_and_then {T = TypeForm} (λ f. formed_in good r f b rest) o ≡ Some p → option_and_then {T = TypeForm} (λ f. formed_in test s f b rest) o ≡ Some p
 opened_keeps good test r s None b rest p wider keep e = absurd (cc)
 opened_keeps good test r s (Some f) b rest p wider keep e = formed_keeps good test r s f b wider keep rest p e
 

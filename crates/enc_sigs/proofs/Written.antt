@@ -7,10 +7,10 @@ use Rattle.enc_base.specs.Token.{nil}
 use Rattle.enc_base.specs.declared.token.Token.{Token}
 use Rattle.enc_sigs.specs.declared.kind.SigKind.{SigKind}
 use Rattle.enc_sigs.specs.declared.kind.SigKind.TheVariants.{Method, Field, Locals, Property, TypeSpec, MethodSpec}
-use Rattle.enc_sigs.specs.declared.form.Form.{Form}
-use Rattle.enc_sigs.specs.declared.form.Form.TheVariants as form
-use Rattle.enc_sigs.specs.declared.form.Numeral.{Numeral}
-use Rattle.enc_sigs.specs.declared.form.Numeral.TheVariants.{Size, Bound}
+use Rattle.enc_sigs.specs.declared.type_form.TypeForm.{TypeForm}
+use Rattle.enc_sigs.specs.declared.type_form.TypeForm.TheVariants as form
+use Rattle.enc_sigs.specs.declared.type_form.Numeral.{Numeral}
+use Rattle.enc_sigs.specs.declared.type_form.Numeral.TheVariants.{Size, Bound}
 use Rattle.enc_sigs.specs.Tree.{Forest, none, more, Tree, SigTree, trees, forest_of, trees_of}
 use Rattle.enc_sigs.specs.Grammar.{upon, given, many, more_in, list_in, tree, numbered_in, numeral_in, numerals_in, byte_in, wrapped_in, named_in, modified_in, array_in, instance_in, pointer_in, method_in, calling_in, generics_in, is_calling, parts_in, params, marked_in, accessed_in, begins, token_in, form_of, formed_in, elem_in, type_in, front_in, all_of, unless_more, sig_in, table_of, token_named, is_coded, NamesTables}
 use Rattle.enc_base.specs.Readers.{Reader, giving, both, number_in}
@@ -23,7 +23,7 @@ use Rattle.enc_sigs.proofs.Agreed.{IsPlain, elem_plain, map_known, upon_known, b
 use Rattle.enc_sigs.proofs.Back.{Moves, Back, AreMany, Goes, staying, pair_moves, upon_moves, counted_moves, token_moves, giving_back, both_back, upon_back, many_back, counted_back, number_back, signed_back, byte_back, byte_tested, token_back, and_left}
 
 -- what stands behind a first byte of this form
-abbrev pub within : Form → Tree → List ℕ
+abbrev pub within : TypeForm → Tree → List ℕ
 within f t = formed_bytes (Some f) t.token t.number (trees t.kids) (spellings t.kids)
 
 -- types one behind the other
@@ -478,7 +478,7 @@ bare_read : (f : Token → Token) (test : ℕ → Bool) (s : Reader Tree) (b : �
 unfolding formed_in formed_bytes
 bare_read f test s b rest bare = ap (λ (t : Tree). Some (t, rest)) (sym (bare_to f b 0 [] bare))
 
-formed_back : (f : Token → Token) (ok : Token → Bool) (good test : ℕ → Bool) (g : Form) (b : ℕ) (r s : Reader Tree) → has_token b ≡ form_has_token (Some g)
+formed_back : (f : Token → Token) (ok : Token → Bool) (good test : ℕ → Bool) (g : TypeForm) (b : ℕ) (r s : Reader Tree) → has_token b ≡ form_has_token (Some g)
     → WrittenIsRead → SignedWrittenIsRead → Goes f ok good test → IsPlain r → Back (types f ok) r s
     → Back (tree_moves f ok (within g)) (formed_in good r g b) (formed_in test s g b)
 unfolding formed_in
@@ -501,27 +501,27 @@ formed_back f ok good test form.Instance b r s has written signed goes plain bac
 formed_back f ok good test form.Pointer b r s has written signed goes plain back bytes p rest e may =
     pointer_back f ok r s b has written plain back bytes p rest e may
 
-begun : (x : Tree) (b : ℕ) (f : Form) → x.element ≡ b → form_of b ≡ Some f → tree_bytes x ≡ b ∷ within f x
+begun : (x : Tree) (b : ℕ) (f : TypeForm) → x.element ≡ b → form_of b ≡ Some f → tree_bytes x ≡ b ∷ within f x
 unfolding tree_bytes
 begun x b f e is =
     ap (λ n. n ∷ formed_bytes (form_of n) x.token x.number (trees x.kids) (spellings x.kids)) e
     ∙ ap (λ o. b ∷ formed_bytes o x.token x.number (trees x.kids) (spellings x.kids)) is
 
-form_has : (b : ℕ) (g : Form) → form_of b ≡ Some g → has_token b ≡ form_has_token (Some g)
+form_has : (b : ℕ) (g : TypeForm) → form_of b ≡ Some g → has_token b ≡ form_has_token (Some g)
 unfolding has_token
 form_has b g is = ap form_has_token is
 
-opened_back : (f : Token → Token) (ok : Token → Bool) (good test : ℕ → Bool) (o : Option Form) (b depth : ℕ) (bytes : List ℕ) (p : Tree × List ℕ)
+opened_back : (f : Token → Token) (ok : Token → Bool) (good test : ℕ → Bool) (o : Option TypeForm) (b depth : ℕ) (bytes : List ℕ) (p : Tree × List ℕ)
     (rest : List ℕ)
-    → ((g : Form) → has_token b ≡ form_has_token (Some g)
+    → ((g : TypeForm) → has_token b ≡ form_has_token (Some g)
     → Back (tree_moves f ok (within g)) (formed_in good (elem_in good depth) g b) (formed_in test (elem_in test depth) g b))
-    → form_of b ≡ o → option_and_then {T = Form} (λ g. formed_in good (elem_in good depth) g b bytes) o ≡ Some p → tree_may ok p.0 ≡ true
+    → form_of b ≡ o → option_and_then {T = TypeForm} (λ g. formed_in good (elem_in good depth) g b bytes) o ≡ Some p → tree_may ok p.0 ≡ true
     → elem_in test (suc depth) (tree_bytes (tree_moved f p.0) ++ rest) ≡ Some (tree_moved f p.0, rest)
 unfolding elem_in
 opened_back f ok good test None b depth bytes p rest back is e may = absurd (cc)
 opened_back f ok good test (Some g) b depth bytes p rest back is e may =
     ap (λ z. elem_in test (suc depth) (z ++ rest)) (begun (tree_moved f p.0) b g (formed_element good g b (elem_in good depth) bytes p e) is)
-    ∙ ap (option_and_then {T = Form} {U = Tree × List ℕ} (λ h. formed_in test (elem_in test depth) h b (within g (tree_moved f p.0) ++ rest))) is
+    ∙ ap (option_and_then {T = TypeForm} {U = Tree × List ℕ} (λ h. formed_in test (elem_in test depth) h b (within g (tree_moved f p.0) ++ rest))) is
     ∙ back g (form_has b g is) bytes p rest e may
 
 elem_back : (f : Token → Token) (ok : Token → Bool) (good test : ℕ → Bool) (depth : ℕ) → WrittenIsRead → SignedWrittenIsRead → Goes f ok good test

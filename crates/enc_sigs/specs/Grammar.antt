@@ -8,12 +8,12 @@ use Rattle.enc_base.specs.declared.counts.Counts.{Counts}
 use Rattle.enc_base.specs.Tables.{type_def, type_ref, type_spec}
 use Rattle.enc_sigs.specs.declared.kind.SigKind.{SigKind}
 use Rattle.enc_sigs.specs.declared.kind.SigKind.TheVariants.{Method, Field, Locals, Property, TypeSpec, MethodSpec}
-use Rattle.enc_sigs.specs.declared.form.Form.{Form}
-use Rattle.enc_sigs.specs.declared.form.Form.TheVariants as form
+use Rattle.enc_sigs.specs.declared.type_form.TypeForm.{TypeForm}
+use Rattle.enc_sigs.specs.declared.type_form.TypeForm.TheVariants as form
 use Rattle.enc_sigs.specs.declared.row_test.RowTest.{RowTest}
 use Rattle.enc_sigs.specs.declared.row_test.RowTest.TheVariants.{Any, Within}
-use Rattle.enc_sigs.specs.declared.form.Numeral.{Numeral}
-use Rattle.enc_sigs.specs.declared.form.Numeral.TheVariants.{Size, Bound}
+use Rattle.enc_sigs.specs.declared.type_form.Numeral.{Numeral}
+use Rattle.enc_sigs.specs.declared.type_form.Numeral.TheVariants.{Size, Bound}
 use Rattle.enc_sigs.specs.Tree.{Tree, SigTree, forest_of}
 
 -- a number, and behind it what depends on it
@@ -65,7 +65,7 @@ abbrev pub tree : ℕ → Token → ℕ → List Tree → Tree
 tree element token number kids = record { element = element; token = token; number = number; kids = forest_of kids }
 
 -- what follows a type's first byte (II.23.2.12, II.23.1.16)
-unfoldable pub form_of : ℕ → Option Form
+unfoldable pub form_of : ℕ → Option TypeForm
 form_of b =
     if nat_le 0x01 b && nat_le b 0x0E || b == 0x16 || b == 0x18 || b == 0x19 || b == 0x1C then Some form.Bare
     else if b == 0x0F || b == 0x10 || b == 0x1D || b == 0x45 then Some form.Wrapped
@@ -158,7 +158,7 @@ unfoldable pub pointer_in : Reader Tree → ℕ → Reader Tree
 pointer_in one b = giving (λ (p : (ℕ × ℕ) × List Tree). tree b nil p.0.0 (tree 0 nil p.0.1 [] ∷ p.1)) (method_in one)
 
 -- what follows a first byte of each form, by how the types within are read
-unfoldable pub formed_in : (ℕ → Bool) → Reader Tree → Form → ℕ → Reader Tree
+unfoldable pub formed_in : (ℕ → Bool) → Reader Tree → TypeForm → ℕ → Reader Tree
 formed_in good one form.Bare b = λ bytes. Some (tree b nil 0 [], bytes)
 formed_in good one form.Wrapped b = wrapped_in one b
 formed_in good one form.Named b = named_in good b

@@ -4,14 +4,14 @@ use Rattle.enc_base.specs.declared.token.Token.{Token}
 use Rattle.enc_sigs.specs.Tree.{Forest, none, more, Tree, SigTree}
 use Rattle.enc_sigs.specs.Grammar.{form_of, token_named, sig_in, token_in}
 use Rattle.enc_sigs.specs.Spelling.{token_number, sig_bytes}
-use Rattle.enc_sigs.specs.declared.form.Form.{Form}
-use Rattle.enc_sigs.specs.declared.form.Form.TheVariants as form
+use Rattle.enc_sigs.specs.declared.type_form.TypeForm.{TypeForm}
+use Rattle.enc_sigs.specs.declared.type_form.TypeForm.TheVariants as form
 use Rattle.enc_sigs.specs.declared.kind.SigKind.{SigKind}
 use Rattle.enc_sigs.specs.declared.kind.SigKind.TheVariants.{Field}
 
 -- a token stands behind the first byte of a class or value type, of a modifier and of a generic instance (II.23.2.7,
 -- II.23.2.8, II.23.2.12)
-abbrev pub form_has_token : Option Form → Bool
+abbrev pub form_has_token : Option TypeForm → Bool
 form_has_token (Some form.Named) = true
 form_has_token (Some form.Modified) = true
 form_has_token (Some form.Instance) = true

@@ -5,10 +5,10 @@ use Rattle.enc_base.specs.declared.token.Token.{Token}
 use Rattle.enc_base.specs.Tables.{type_def, type_ref}
 use Rattle.enc_sigs.specs.declared.kind.SigKind.{SigKind}
 use Rattle.enc_sigs.specs.declared.kind.SigKind.TheVariants.{Method, Field, Locals, Property, TypeSpec, MethodSpec}
-use Rattle.enc_sigs.specs.declared.form.Form.{Form}
-use Rattle.enc_sigs.specs.declared.form.Form.TheVariants as form
-use Rattle.enc_sigs.specs.declared.form.Numeral.{Numeral}
-use Rattle.enc_sigs.specs.declared.form.Numeral.TheVariants.{Size, Bound}
+use Rattle.enc_sigs.specs.declared.type_form.TypeForm.{TypeForm}
+use Rattle.enc_sigs.specs.declared.type_form.TypeForm.TheVariants as form
+use Rattle.enc_sigs.specs.declared.type_form.Numeral.{Numeral}
+use Rattle.enc_sigs.specs.declared.type_form.Numeral.TheVariants.{Size, Bound}
 use Rattle.enc_sigs.specs.Tree.{Forest, none, more, Tree, SigTree, trees, forest_of}
 use Rattle.enc_sigs.specs.Grammar.{form_of, is_coded, sig_in}
 use Rattle.enc_base.specs.Readers.{is_small}
@@ -82,7 +82,7 @@ pointer_bytes calling (generics ∷ ts) (x ∷ parts) =
 pointer_bytes calling _ _ = []
 
 -- what follows the first byte: the token, the number, the parts and what these spell
-unfoldable pub formed_bytes : Option Form → Token → ℕ → List Tree → List (List ℕ) → List ℕ
+unfoldable pub formed_bytes : Option TypeForm → Token → ℕ → List Tree → List (List ℕ) → List ℕ
 formed_bytes None t n kids parts = joined parts
 formed_bytes (Some form.Bare) t n kids parts = []
 formed_bytes (Some form.Wrapped) t n kids parts = joined parts

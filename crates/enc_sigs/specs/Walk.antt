@@ -4,10 +4,10 @@ use Rattle.enc_base.specs.Numbers.{is_empty}
 use Rattle.enc_base.specs.declared.token.Token.{Token}
 use Rattle.enc_sigs.specs.declared.kind.SigKind.{SigKind}
 use Rattle.enc_sigs.specs.declared.kind.SigKind.TheVariants.{Method, Field, Locals, Property, TypeSpec, MethodSpec}
-use Rattle.enc_sigs.specs.declared.form.Form.{Form}
-use Rattle.enc_sigs.specs.declared.form.Form.TheVariants as form
-use Rattle.enc_sigs.specs.declared.form.Numeral.{Numeral}
-use Rattle.enc_sigs.specs.declared.form.Numeral.TheVariants.{Size, Bound}
+use Rattle.enc_sigs.specs.declared.type_form.TypeForm.{TypeForm}
+use Rattle.enc_sigs.specs.declared.type_form.TypeForm.TheVariants as form
+use Rattle.enc_sigs.specs.declared.type_form.Numeral.{Numeral}
+use Rattle.enc_sigs.specs.declared.type_form.Numeral.TheVariants.{Size, Bound}
 use Rattle.enc_sigs.specs.Grammar.{byte_in, numeral_in, token_in, is_coded, form_of, calling_in, begins}
 use Rattle.enc_base.specs.Readers.{Reader, number_in}
 use Rattle.enc_sigs.specs.Agree.{tokens_agree}
@@ -95,7 +95,7 @@ unfoldable pub method_walk : Walk → Walk
 method_walk one = onward calling_walk (parts_walk one)
 
 -- what follows a first byte of each form (II.23.2.12)
-unfoldable pub formed_walk : (Token → Token → Bool) → Walk → Form → Walk
+unfoldable pub formed_walk : (Token → Token → Bool) → Walk → TypeForm → Walk
 formed_walk same one form.Bare = λ a b. Some (a, b)
 formed_walk same one form.Wrapped = one
 formed_walk same one form.Named = token_walk same

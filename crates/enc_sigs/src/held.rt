@@ -6,9 +6,9 @@ ghost use Rattle.enc_base.specs.Readers.{number_in};
 ghost use Rattle.enc_sigs.specs.Reads.{Reads, AreRead};
 
 use crate::elem::Elem;
-use crate::form::Numeral;
 use crate::kind::SigFault;
 use crate::number::{numeral, token};
+use crate::type_form::Numeral;
 use enc_base::{Counts, Token, unsigned_front};
 use std::alloc::{AllocError, Global};
 

@@ -4,11 +4,11 @@ ghost use Rattle.enc_sigs.specs.Grammar.{elem_in, formed_in, modified_in, array_
 ghost use Rattle.enc_sigs.specs.Reads.{left_after, element_front};
 ghost use Rattle.enc_sigs.specs.declared.kind.SigKind.TheVariants as sigs;
 
-use crate::form::{Form, Numeral};
 use crate::held::behind_sentinel;
 use crate::kind::{DEPTH, SigKind};
 use crate::number::{calling, form_by, numeral, tested_token};
 use crate::row_test::RowTest;
+use crate::type_form::{Numeral, TypeForm};
 use enc_base::{Counts, unsigned_front};
 
 /// What is behind so many sizes or lower bounds.
@@ -66,7 +66,7 @@ crate::specs::Grammar::named_in, // a token
 crate::specs::Grammar::numbered_in // or a number
 ))]
 fn past_formed<'a>(
-    form: Form,
+    form: TypeForm,
     b: u8,
     depth: u32,
     bytes: &'a [u8],
@@ -76,14 +76,14 @@ fn past_formed<'a>(
         ≡ left_after (formed_in (test_of rows.now) (elem_in (test_of rows.now) depth) form b bytes.now) }
 {
     match form {
-        Form::Bare => Some(bytes),
-        Form::Wrapped => past_elem(depth, bytes, rows),
-        Form::Named => Some(tested_token(bytes, rows)?.1),
-        Form::Modified => past_modified(b, depth, bytes, rows),
-        Form::Numbered => Some(unsigned_front(bytes)?.1),
-        Form::Array => past_array(b, depth, bytes, rows),
-        Form::Instance => past_instance(b, depth, bytes, rows),
-        Form::Pointer => past_pointer(b, depth, bytes, rows),
+        TypeForm::Bare => Some(bytes),
+        TypeForm::Wrapped => past_elem(depth, bytes, rows),
+        TypeForm::Named => Some(tested_token(bytes, rows)?.1),
+        TypeForm::Modified => past_modified(b, depth, bytes, rows),
+        TypeForm::Numbered => Some(unsigned_front(bytes)?.1),
+        TypeForm::Array => past_array(b, depth, bytes, rows),
+        TypeForm::Instance => past_instance(b, depth, bytes, rows),
+        TypeForm::Pointer => past_pointer(b, depth, bytes, rows),
     }
 }
 

@@ -4,7 +4,6 @@
 
 mod agree;
 mod elem;
-mod form;
 mod held;
 mod judge;
 mod kind;
@@ -16,6 +15,7 @@ mod row_test;
 mod shape;
 mod sig;
 mod sigs;
+mod type_form;
 mod walk;
 mod write;
 

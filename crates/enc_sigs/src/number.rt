@@ -4,8 +4,8 @@ ghost use Rattle.enc_base.specs.Numbers.{has_flag};
 ghost use Rattle.enc_base.specs.Readers.{number_in, signed_in};
 ghost use Rattle.enc_sigs.specs.Grammar.{byte_in, numeral_in, token_in, table_of, token_named, is_coded, is_counted, in_counts, test_of, form_of, is_calling, calling_in};
 
-use crate::form::{Form, Numeral};
 use crate::row_test::RowTest;
+use crate::type_form::{Numeral, TypeForm};
 use enc_base::tables::{TYPE_DEF, TYPE_REF, TYPE_SPEC};
 use enc_base::{Counts, Token, signed_front, unsigned_front};
 
@@ -88,18 +88,18 @@ pub fn tested_token<'a>(bytes: &'a [u8], rows: &RowTest<'_>) -> Option<(Token, &
 
 /// What follows a type's first byte, None where it begins no type.
 #[tactic(auto, unfolding(crate::specs::Grammar::form_of))]
-pub fn form_by(b: u8) -> Option<Form>
+pub fn form_by(b: u8) -> Option<TypeForm>
     ensures { result ≡ form_of b }
 {
     match b {
-        0x01..=0x0e | 0x16 | 0x18 | 0x19 | 0x1c => Some(Form::Bare),
-        0x0f | 0x10 | 0x1d | 0x45 => Some(Form::Wrapped),
-        0x11 | 0x12 => Some(Form::Named),
-        0x1f | 0x20 => Some(Form::Modified),
-        0x13 | 0x1e => Some(Form::Numbered),
-        0x14 => Some(Form::Array),
-        0x15 => Some(Form::Instance),
-        0x1b => Some(Form::Pointer),
+        0x01..=0x0e | 0x16 | 0x18 | 0x19 | 0x1c => Some(TypeForm::Bare),
+        0x0f | 0x10 | 0x1d | 0x45 => Some(TypeForm::Wrapped),
+        0x11 | 0x12 => Some(TypeForm::Named),
+        0x1f | 0x20 => Some(TypeForm::Modified),
+        0x13 | 0x1e => Some(TypeForm::Numbered),
+        0x14 => Some(TypeForm::Array),
+        0x15 => Some(TypeForm::Instance),
+        0x1b => Some(TypeForm::Pointer),
         _ => None,
     }
 }

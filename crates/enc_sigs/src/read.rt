@@ -4,10 +4,10 @@ ghost use Rattle.enc_sigs.specs.Grammar.{elem_in, formed_in, wrapped_in, modifie
 ghost use Rattle.enc_sigs.specs.Reads.{Reads, AreRead, behind};
 
 use crate::elem::Elem;
-use crate::form::{Form, Numeral};
 use crate::held::{NIL, added, around, behind_sentinel, indexed, leaf, named, numerals, three};
 use crate::kind::SigFault;
 use crate::number::{calling, form_by, token};
+use crate::type_form::{Numeral, TypeForm};
 use enc_base::{Counts, Token, unsigned_front};
 use std::alloc::Global;
 
@@ -51,7 +51,7 @@ fn opened<'a>(
 #[cycle(reader)]
 #[tactic(auto, unfolding(crate::specs::Grammar::formed_in))]
 fn formed<'a>(
-    form: Form,
+    form: TypeForm,
     b: u8,
     alloc: Global,
     depth: u32,
@@ -61,14 +61,14 @@ fn formed<'a>(
     ensures { Reads result (formed_in (in_counts counts.now) (elem_in (in_counts counts.now) depth) form b bytes.now) }
 {
     match form {
-        Form::Bare => Ok((leaf(alloc, b, NIL, 0), bytes)),
-        Form::Wrapped => wrapped(alloc, b, depth, bytes, counts),
-        Form::Named => named(alloc, b, bytes, counts),
-        Form::Modified => modified(alloc, b, depth, bytes, counts),
-        Form::Numbered => indexed(alloc, b, bytes),
-        Form::Array => array(alloc, b, depth, bytes, counts),
-        Form::Instance => instance(alloc, b, depth, bytes, counts),
-        Form::Pointer => pointer(alloc, b, depth, bytes, counts),
+        TypeForm::Bare => Ok((leaf(alloc, b, NIL, 0), bytes)),
+        TypeForm::Wrapped => wrapped(alloc, b, depth, bytes, counts),
+        TypeForm::Named => named(alloc, b, bytes, counts),
+        TypeForm::Modified => modified(alloc, b, depth, bytes, counts),
+        TypeForm::Numbered => indexed(alloc, b, bytes),
+        TypeForm::Array => array(alloc, b, depth, bytes, counts),
+        TypeForm::Instance => instance(alloc, b, depth, bytes, counts),
+        TypeForm::Pointer => pointer(alloc, b, depth, bytes, counts),
     }
 }
 

@@ -7,11 +7,11 @@ ghost use Rattle.enc_sigs.specs.Mix.{mix_of};
 ghost use Rattle.enc_sigs.specs.declared.mix.Mix.{Mix as TheMix};
 ghost use Rattle.enc_sigs.specs.Shape.{number_shape, token_shape, many_shape, counted_shape, numerals_shape, array_shape, modified_shape, instance_shape, marked_shape, params_shape, parts_shape, calling_shape, method_shape, formed_shape, elem_shape, type_shape, accessed_shape, front_shape, mixed_of, sig_shape, GivesKeys, AlikeHaveOneShape};
 
-use crate::form::{Form, Numeral};
 use crate::held::behind_sentinel;
 use crate::kind::SigKind;
 use crate::mix::{Mix, mix_of, mixed, mixed_both};
 use crate::number::{calling, coded_token, form_by, numeral};
+use crate::type_form::{Numeral, TypeForm};
 use enc_base::{Token, unsigned_front};
 
 /// How deep types may stand in one another.
@@ -134,7 +134,7 @@ fn opened_shape<'a, F: Fn(Token) -> Mix>(
 #[cycle(shaper)]
 #[tactic(auto, unfolding(crate::specs::Shape::formed_shape))]
 fn formed_shape<'a, F: Fn(Token) -> Mix>(
-    form: Form,
+    form: TypeForm,
     depth: u32,
     mix: Mix,
     bytes: &'a [u8],
@@ -145,14 +145,14 @@ fn formed_shape<'a, F: Fn(Token) -> Mix>(
         → option_map (λ x. (x.0, x.1.now)) result ≡ formed_shape keys (elem_shape keys depth) form mix bytes.now }
 {
     match form {
-        Form::Bare => Some((mix, bytes)),
-        Form::Wrapped => elem_shape(depth, mix, bytes, key),
-        Form::Named => token_shape(mix, bytes, key),
-        Form::Modified => modified_shape(depth, mix, bytes, key),
-        Form::Numbered => numeral_shape(Numeral::Size, mix, bytes),
-        Form::Array => array_shape(depth, mix, bytes, key),
-        Form::Instance => instance_shape(depth, mix, bytes, key),
-        Form::Pointer => method_shape(depth, mix, bytes, key),
+        TypeForm::Bare => Some((mix, bytes)),
+        TypeForm::Wrapped => elem_shape(depth, mix, bytes, key),
+        TypeForm::Named => token_shape(mix, bytes, key),
+        TypeForm::Modified => modified_shape(depth, mix, bytes, key),
+        TypeForm::Numbered => numeral_shape(Numeral::Size, mix, bytes),
+        TypeForm::Array => array_shape(depth, mix, bytes, key),
+        TypeForm::Instance => instance_shape(depth, mix, bytes, key),
+        TypeForm::Pointer => method_shape(depth, mix, bytes, key),
     }
 }
 

@@ -7,9 +7,9 @@ ghost use Rattle.enc_sigs.specs.Grammar.{byte_in, numeral_in};
 ghost use Rattle.enc_base.specs.Readers.{number_in};
 ghost use Rattle.enc_sigs.specs.Walk.{alike, alike_alone, token_walk, many_walk, counted_walk, numerals_walk, array_walk, modified_walk, instance_walk, marked_walk, params_walk, parts_walk, calling_walk, method_walk, formed_walk, elem_walk, Tells};
 
-use crate::form::{Form, Numeral};
 use crate::held::behind_sentinel;
 use crate::number::{calling, coded_token, form_by, numeral};
+use crate::type_form::{Numeral, TypeForm};
 use enc_base::{Token, unsigned_front};
 
 /// The number at the front of both.
@@ -159,7 +159,7 @@ fn opened_of_both<'a, 'b, F: Fn(Token, Token) -> bool>(
 #[cycle(walker)]
 #[tactic(auto, unfolding(crate::specs::Walk::formed_walk))]
 fn formed_of_both<'a, 'b, F: Fn(Token, Token) -> bool>(
-    form: Form,
+    form: TypeForm,
     depth: u32,
     a: &'a [u8],
     b: &'b [u8],
@@ -170,14 +170,14 @@ fn formed_of_both<'a, 'b, F: Fn(Token, Token) -> bool>(
         → option_map (λ x. (x.0.now, x.1.now)) result ≡ formed_walk rel (elem_walk rel depth) form a.now b.now }
 {
     match form {
-        Form::Bare => Some((a, b)),
-        Form::Wrapped => elem_of_both(depth, a, b, same),
-        Form::Named => token_of_both(a, b, same),
-        Form::Modified => modified_of_both(depth, a, b, same),
-        Form::Numbered => numeral_of_both(Numeral::Size, a, b),
-        Form::Array => array_of_both(depth, a, b, same),
-        Form::Instance => instance_of_both(depth, a, b, same),
-        Form::Pointer => method_of_both(depth, a, b, same),
+        TypeForm::Bare => Some((a, b)),
+        TypeForm::Wrapped => elem_of_both(depth, a, b, same),
+        TypeForm::Named => token_of_both(a, b, same),
+        TypeForm::Modified => modified_of_both(depth, a, b, same),
+        TypeForm::Numbered => numeral_of_both(Numeral::Size, a, b),
+        TypeForm::Array => array_of_both(depth, a, b, same),
+        TypeForm::Instance => instance_of_both(depth, a, b, same),
+        TypeForm::Pointer => method_of_both(depth, a, b, same),
     }
 }
 

@@ -6,10 +6,10 @@ ghost use Rattle.enc_base.specs.Numbers.{has_flag};
 ghost use Rattle.enc_sigs.specs.Moved.{form_has_token, has_token, forest_moved, tree_moved, sig_moved, all_tokens, stays_in_table, GivesTokens};
 
 use crate::elem::Elem;
-use crate::form::{Form, Numeral};
 use crate::kind::SigKind;
 use crate::number::form_by;
 use crate::sig::{Front, Sig};
+use crate::type_form::{Numeral, TypeForm};
 use enc_base::tables::{TYPE_DEF, TYPE_REF};
 use enc_base::{Token, push_signed, push_unsigned, written_laws};
 use std::alloc::{AllocError, Global};
@@ -163,7 +163,7 @@ fn write_elem<F: Fn(Token) -> Token>(
 #[cycle(writer)]
 #[tactic(auto, unfolding(crate::specs::Spelling::formed_bytes))]
 fn write_within<F: Fn(Token) -> Token>(
-    form: Option<Form>,
+    form: Option<TypeForm>,
     elem: &Elem,
     moved: &F,
     out: &mut Vec<u8>,
@@ -179,17 +179,17 @@ fn write_within<F: Fn(Token) -> Token>(
         return write_elems(kids, moved, out);
     };
     match form {
-        Form::Bare => Ok(()),
-        Form::Wrapped => write_elems(kids, moved, out),
-        Form::Named => write_moved_token(elem.token, moved, out),
-        Form::Modified => {
+        TypeForm::Bare => Ok(()),
+        TypeForm::Wrapped => write_elems(kids, moved, out),
+        TypeForm::Named => write_moved_token(elem.token, moved, out),
+        TypeForm::Modified => {
             write_moved_token(elem.token, moved, out)?;
             write_elems(kids, moved, out)
         }
-        Form::Numbered => write_number(elem.number as usize, out),
-        Form::Array => write_array(elem.number, kids, moved, out),
-        Form::Instance => write_instance(elem.number, elem.token, kids, moved, out),
-        Form::Pointer => write_pointer(elem.number, kids, moved, out),
+        TypeForm::Numbered => write_number(elem.number as usize, out),
+        TypeForm::Array => write_array(elem.number, kids, moved, out),
+        TypeForm::Instance => write_instance(elem.number, elem.token, kids, moved, out),
+        TypeForm::Pointer => write_pointer(elem.number, kids, moved, out),
     }
 }
 

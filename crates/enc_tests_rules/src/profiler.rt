@@ -67,11 +67,7 @@ impl Calls {
 }
 
 impl Watcher for Calls {
-    ghost heard = { λ c. c.trace };
-
-    ghost limit = { λ _. None };
-
-    ghost kind_of = { λ _. kind.Trace };
+    ghost watching = { λ c. record { kind = kind.Trace; limit = None; heard = c.trace } };
 
     fn kind(&self) -> WatchKind {
         WatchKind::Trace

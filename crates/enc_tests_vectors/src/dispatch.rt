@@ -5,7 +5,7 @@ use enc_base::{ReadFault, Token};
 use enc_dispatch::Dispatch;
 use enc_image::Image;
 use enc_opcodes::CodeRef;
-use enc_unwind::{Stop, Thrown, catch_in, next_handler};
+use enc_unwind::{Thrown, WayOut, catch_in, next_handler};
 use std::alloc::Global;
 
 /// As many questions as a line has at most.
@@ -149,11 +149,11 @@ fn past(args: &mut Args<'_>) -> Result<Option<u32>, Fault> {
 }
 
 /// How far clauses run: at a `leave OFFSET`, `all`, or those `before CLAUSE`.
-fn stop(args: &mut Args<'_>) -> Result<Stop, Fault> {
+fn stop(args: &mut Args<'_>) -> Result<WayOut, Fault> {
     match args.word()? {
-        "leave" => Ok(Stop::Leave(args.number()?)),
-        "all" => Ok(Stop::All),
-        "before" => Ok(Stop::Before(args.number()?)),
+        "leave" => Ok(WayOut::Leave(args.number()?)),
+        "all" => Ok(WayOut::All),
+        "before" => Ok(WayOut::Before(args.number()?)),
         _ => Err(Fault::Form),
     }
 }

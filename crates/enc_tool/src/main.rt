@@ -1,7 +1,9 @@
 //! The program `enc`: runs its words over real files and standard output.
 #![tactic(auto)]
 
-use enc_program::run_program;
+mod program;
+
+use program::run_program;
 use std::process::ExitCode;
 
 fn main(rt: HostRuntime) -> ExitCode {

@@ -8,7 +8,7 @@ use Rattle.enc_base.proofs.First.{first_means}
 use Rattle.enc_opcodes.specs.Body.{Handler, HandlerKind, catching, filtering, finishing, faulting}
 use Rattle.enc_unwind.specs.Laws.{IsFirstPassing, FirstCatches, NoneCatchesUnheld, FirstRuns, FinallyRunsAtLeave}
 use Rattle.enc_unwind.specs.Search.{protects, answer_at, first_clause, takes, catch_among, is_finally, is_after, runs_on, next_among}
-use Rattle.enc_unwind.specs.declared.stop.Stop.TheVariants.{Leave}
+use Rattle.enc_unwind.specs.declared.way_out.WayOut.TheVariants.{Leave}
 
 fails_of : (b : Bool) (k : ℕ) → (if b then Some k else None) ≡ None → b ≡ false
 fails_of true k h = absurd cc

@@ -6,8 +6,8 @@ use Rattle.enc_plain.specs.Module.{Row, Module}
 use Rattle.enc_unwind.specs.Search.{catch_among, next_among, handlers_of}
 use Rattle.enc_unwind.specs.declared.thrown.Thrown.{Thrown}
 use Rattle.enc_unwind.specs.declared.thrown.Thrown.TheVariants.{Class, Text, Array}
-use Rattle.enc_unwind.specs.declared.stop.Stop.{Stop}
-use Rattle.enc_unwind.specs.declared.stop.Stop.TheVariants.{Leave, Before, All}
+use Rattle.enc_unwind.specs.declared.way_out.WayOut.{WayOut}
+use Rattle.enc_unwind.specs.declared.way_out.WayOut.TheVariants.{Leave, Before, All}
 
 -- the TypeRefs System.Object and System.String
 abbrev pub system_type : List ℕ → Row
@@ -39,7 +39,7 @@ example_sections =
 abbrev pub caught_at : ℕ → Thrown → Option ℕ
 caught_at offset thrown = catch_among example_module 1 (handlers_of example_sections) offset thrown
 
-abbrev pub next_from : Option ℕ → Stop → Option ℕ
+abbrev pub next_from : Option ℕ → WayOut → Option ℕ
 next_from past stop = next_among (handlers_of example_sections) past 5 stop
 
 -- an object of the second class is caught where that is; one of the first, and one that is thrown behind, by

@@ -8,8 +8,8 @@ use Rattle.enc_unwind.specs.Search.{protects, takes, catch_among, is_after, runs
 use Rattle.enc_unwind.specs.Thrown.{is_caught_by}
 use Rattle.enc_unwind.specs.declared.thrown.Thrown.{Thrown}
 use Rattle.enc_unwind.specs.declared.thrown.Thrown.TheVariants.{Class}
-use Rattle.enc_unwind.specs.declared.stop.Stop.{Stop}
-use Rattle.enc_unwind.specs.declared.stop.Stop.TheVariants.{Leave}
+use Rattle.enc_unwind.specs.declared.way_out.WayOut.{WayOut}
+use Rattle.enc_unwind.specs.declared.way_out.WayOut.TheVariants.{Leave}
 
 -- a number is that of a clause that passes a test, with none before it that does; no number, no clause that passes
 abbrev pub IsFirstPassing : (ℕ → Handler → Bool) → List Handler → Option ℕ → Type 0
@@ -31,7 +31,7 @@ NoneCatchesUnheld = (m : Module) (clauses : List Handler) (offset : ℕ) (thrown
 
 -- the next clause is the first behind the last one tried that protects the offset and runs
 abbrev pub FirstRuns : Type 0
-FirstRuns = (clauses : List Handler) (past : Option ℕ) (offset : ℕ) (stop : Stop)
+FirstRuns = (clauses : List Handler) (past : Option ℕ) (offset : ℕ) (stop : WayOut)
     → IsFirstPassing (λ (k : ℕ) (c : Handler). is_after past k && protects c offset && runs_on stop k c) clauses
     (next_among clauses past offset stop)
 

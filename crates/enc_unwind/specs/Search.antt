@@ -8,8 +8,8 @@ use Rattle.enc_opcodes.specs.Clause.{clauses_of}
 use Rattle.enc_plain.specs.Module.{Module}
 use Rattle.enc_unwind.specs.Thrown.{is_caught_by}
 use Rattle.enc_unwind.specs.declared.thrown.Thrown.{Thrown}
-use Rattle.enc_unwind.specs.declared.stop.Stop.{Stop}
-use Rattle.enc_unwind.specs.declared.stop.Stop.TheVariants.{Leave, Before, All}
+use Rattle.enc_unwind.specs.declared.way_out.WayOut.{WayOut}
+use Rattle.enc_unwind.specs.declared.way_out.WayOut.TheVariants.{Leave, Before, All}
 
 -- an offset lies in a range, from its first byte to one past its last
 abbrev pub is_in_range : ℕ × ℕ → ℕ → Bool
@@ -64,13 +64,13 @@ is_after (Some last) k = nat_lt last k
 -- a clause runs on the way out: by leave, each finally that doesn't protect where it goes; by a thrown object, each
 -- finally and fault,
 -- up to the clause that takes it
-abbrev pub runs_on : Stop → ℕ → Handler → Bool
+abbrev pub runs_on : WayOut → ℕ → Handler → Bool
 runs_on (Leave goal) k clause = is_finally clause.kind && not (protects clause goal)
 runs_on (Before last) k clause = runs_always clause.kind && nat_lt k last
 runs_on All k clause = runs_always clause.kind
 
 -- the next clause that runs on the way out from an offset
-unfoldable pub next_among : List Handler → Option ℕ → ℕ → Stop → Option ℕ
+unfoldable pub next_among : List Handler → Option ℕ → ℕ → WayOut → Option ℕ
 next_among clauses past offset stop =
     first_clause (λ (k : ℕ) (clause : Handler). is_after past k && protects clause offset
     && runs_on stop k clause) clauses

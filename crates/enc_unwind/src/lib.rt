@@ -8,12 +8,12 @@ mod laws;
 mod passing;
 mod runs;
 mod search;
-mod stop;
 mod thrown;
 mod types;
 mod walk;
+mod way_out;
 
 pub use laws::{caught_law, example_searches, search_laws};
 pub use search::{catch_in, is_handled, next_handler};
-pub use stop::Stop;
 pub use thrown::Thrown;
+pub use way_out::WayOut;

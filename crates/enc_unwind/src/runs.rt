@@ -5,7 +5,7 @@ ghost use Rattle.enc_unwind.specs.Search.{is_after, runs_on};
 
 use crate::kinds::{is_finally, protects, runs_always};
 use crate::passing::ClauseTest;
-use crate::stop::Stop;
+use crate::way_out::WayOut;
 use enc_opcodes::Clause;
 
 /// Passes clauses behind the last one tried that protect an offset and run on the way out.
@@ -16,7 +16,7 @@ pub(crate) struct Runs {
     /// The offset that is left.
     pub offset: u32,
     /// How far the way goes.
-    pub stop: Stop,
+    pub stop: WayOut,
 }
 
 /// Whether a clause stands behind the last one tried.
@@ -32,13 +32,13 @@ fn is_after(past: Option<u32>, k: u32) -> bool
 /// Whether a clause runs on the way out: at a `leave` a finally clause that doesn't protect the target,
 /// and for a thrown object each finally and fault clause before the one that takes it (ECMA-335
 /// I.12.4.2.5, III.3.46).
-fn runs_on(stop: Stop, k: u32, clause: Clause) -> bool
+fn runs_on(stop: WayOut, k: u32, clause: Clause) -> bool
     ensures { result ≡ runs_on stop k (handler_meant clause) }
 {
     match stop {
-        Stop::Leave(goal) => is_finally(clause) && !protects(clause, goal),
-        Stop::Before(last) => runs_always(clause) && k < last,
-        Stop::All => runs_always(clause),
+        WayOut::Leave(goal) => is_finally(clause) && !protects(clause, goal),
+        WayOut::Before(last) => runs_always(clause) && k < last,
+        WayOut::All => runs_always(clause),
     }
 }
 

@@ -5,9 +5,9 @@ ghost use Rattle.enc_unwind.specs.Search.{catch_among, is_handled as lies_in_han
 use crate::catches::Catches;
 use crate::handles::Handles;
 use crate::runs::Runs;
-use crate::stop::Stop;
 use crate::thrown::Thrown;
 use crate::walk::first_clause;
+use crate::way_out::WayOut;
 use enc_opcodes::CodeRef;
 use enc_plain::ModuleView;
 
@@ -40,7 +40,7 @@ pub fn catch_in<V: ModuleView>(
 /// The number, from 0, of the first clause behind the last one tried that runs on the way out from an
 /// offset, None where there is none (ECMA-335 I.12.4.2.5, III.3.46). It takes no memory.
 #[tactic(auto, unfolding(crate::specs::Search::next_among))]
-pub fn next_handler(code: &CodeRef<'_>, past: Option<u32>, offset: u32, stop: Stop) -> Option<u32>
+pub fn next_handler(code: &CodeRef<'_>, past: Option<u32>, offset: u32, stop: WayOut) -> Option<u32>
     requires { length code.now.sections.now < 2 ^ 32 }
     ensures { result ≡ next_among (handlers_of code.now.sections.now) past offset stop }
 {

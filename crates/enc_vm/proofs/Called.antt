@@ -3,7 +3,7 @@ use Rattle.std.proofs.Common.{◌≡◌, ℕ, Bool, true, false, List, length, O
 use Rattle.std.specs.Prelude.{◌==◌, option_map, option_and_then, reverse, if◌then◌else◌}
 use Rattle.enc_base.specs.declared.token.Token.{Token}
 use Rattle.enc_plain.specs.ClassPath.{before_class}
-use Rattle.enc_dispatch.specs.Target.{walk_down, class_target, from_interface, first_given, interface_target, is_interface, target_by, target_of}
+use Rattle.enc_dispatch.specs.Target.{walk_down, class_target, from_interface, first_given, interface_target, is_interface, declared_target, target_of}
 use Rattle.enc_machine_types.specs.Elements.{CallShape}
 use Rattle.enc_objects.specs.declared.trap.Trap.{Trap}
 use Rattle.enc_plain.specs.Module.{Module, has_row, owner_of}
@@ -51,8 +51,8 @@ by_type : {A : Type 0} (b : Bool) (x y : Option A) → x ≡ None → y ≡ None
 by_type true x y e f = e
 by_type false x y e f = f
 
-no_target_by : (m : Module) (class method : Token) (o : Option Token) → has_row m class ≡ false → option_and_then (target_by m class method) o ≡ None
-unfolding target_by
+no_target_by : (m : Module) (class method : Token) (o : Option Token) → has_row m class ≡ false → option_and_then (declared_target m class method) o ≡ None
+unfolding declared_target
 no_target_by m class method None h = refl
 no_target_by m class method (Some owner) h =
     by_type (is_interface m owner) (interface_target m class owner method) (class_target m class owner method)
@@ -62,4 +62,4 @@ no_target_by m class method (Some owner) h =
 pub no_target : (m : Module) (class method : Token) → has_row m class ≡ false → target_of m class method ≡ None
 unfolding target_of
 no_target m class method h =
-    by_type (method.table == tables.method_def) (option_and_then (target_by m class method) (owner_of m method)) None (no_target_by m class method (owner_of m method) h) refl
+    by_type (method.table == tables.method_def) (option_and_then (declared_target m class method) (owner_of m method)) None (no_target_by m class method (owner_of m method) h) refl

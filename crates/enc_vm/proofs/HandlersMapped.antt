@@ -7,7 +7,7 @@ use Rattle.enc_objects.specs.Objects.{Store, shape_in}
 use Rattle.enc_objects.specs.declared.trap.Trap.TheVariants.{X2, X14}
 use Rattle.enc_opcodes.specs.Body.{Handler}
 use Rattle.enc_unwind.specs.Search.{next_among}
-use Rattle.enc_unwind.specs.declared.stop.Stop.TheVariants as stop
+use Rattle.enc_unwind.specs.declared.way_out.WayOut.TheVariants as stop
 use Rattle.enc_unwind.specs.declared.thrown.Thrown.{Thrown}
 use Rattle.enc_vm.proofs.Mapped.{frame_by, thread_by, flown_with_codes, result_by, before, after, along, either}
 use Rattle.enc_frames.specs.Handlers.{gone_to, start, left_by, leave_to, thrown_of, ends_search, caught_by, outer_taker, taker, throw_object, ending_handler, resumed_by, end_finally, is_taking, way_out, handled, object_taken, left_on, flown, fly}

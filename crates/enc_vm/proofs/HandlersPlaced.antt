@@ -5,7 +5,7 @@ use Rattle.enc_objects.specs.Objects.{Store, shape_in}
 use Rattle.enc_objects.specs.declared.trap.Trap.TheVariants.{X2, X14}
 use Rattle.enc_opcodes.specs.Body.{Body}
 use Rattle.enc_unwind.specs.Search.{is_in_range, next_among}
-use Rattle.enc_unwind.specs.declared.stop.Stop.TheVariants as stop
+use Rattle.enc_unwind.specs.declared.way_out.WayOut.TheVariants as stop
 use Rattle.enc_vm.proofs.Placed.{AfterOk, AfterSome, through, after_that, or_trapped, either_way, handler_place, fewer_hold}
 use Rattle.enc_frames.specs.Handlers.{handler_range, pruned, gone_to, start, left_by, leave_to, thrown_of, taker, throw_object, ending_handler, resumed_by, end_finally, is_taking, way_out, Flown, object_taken, left_on, flown, fly}
 use Rattle.enc_frames.specs.Machine.{World, Frame, Thread}

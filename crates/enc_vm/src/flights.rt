@@ -12,7 +12,7 @@ use crate::thread::Thread;
 use enc_base::Token;
 use enc_frames::{Flight, Reason, Running, Stop};
 use enc_objects::Trap;
-use enc_unwind::{Stop as WayOut, next_handler};
+use enc_unwind::{WayOut, next_handler};
 use std::alloc::Global;
 
 impl Thread {

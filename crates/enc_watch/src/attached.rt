@@ -25,7 +25,7 @@ impl<W: Watcher> Model for Attached<W> {
 
     ghost view = { λ a. record {
       number = a.number;
-      watching = record { kind = W.kind_of a.watcher; limit = W.limit a.watcher; heard = W.heard a.watcher };
+      watching = W.watching a.watcher;
     } };
 
     ghost invariant = { λ a. a.name.items ≡ line_front a.number };
@@ -70,7 +70,7 @@ impl<W: Watcher> Attached<W> {
     pub(crate) fn new(alloc: Global, number: u32, watcher: W) -> Result<Attached<W>, W>
         ensures ok { IfOk result (λ a. a ≡ record {
           number = number;
-          watching = record { kind = W.kind_of watcher; limit = W.limit watcher; heard = W.heard watcher };
+          watching = W.watching watcher;
         }) }
         ensures err { IfErr result (λ w. w ≡ watcher) }
     {
@@ -86,7 +86,7 @@ impl<W: Watcher> Attached<W> {
 
     /// The watcher alone.
     pub(crate) fn into_watcher(self) -> W
-        ensures { record { kind = W.kind_of result; limit = W.limit result; heard = W.heard result } ≡ self.watching }
+        ensures { W.watching result ≡ self.watching }
     {
         self.watcher
     }

@@ -110,7 +110,7 @@ impl<W: Watcher> Audience<W> {
         requires { self.old.given + 1 < 2 ^ 32 }
         ensures number { IfOk result (λ number. number ≡ self.new.given) }
         ensures ok { OnOk result (self.new ≡ attached
-            (record { kind = W.kind_of watcher; limit = W.limit watcher; heard = W.heard watcher }) self.old) }
+            (W.watching watcher) self.old) }
         ensures err { IfErr result (λ back. back ≡ watcher) }
         ensures kept { OnErr result (self.new ≡ self.old) }
     {
@@ -130,7 +130,7 @@ impl<W: Watcher> Audience<W> {
 
     /// Detaches the watcher with a number and hands it back; None where none has it. It hears nothing more.
     pub fn detach(&mut self, number: u32) -> Option<W>
-        ensures taken { option_map (λ w. record { kind = W.kind_of w; limit = W.limit w; heard = W.heard w }) result
+        ensures taken { option_map W.watching result
             ≡ option_map (λ (s : Seat). s.watching) (seat_at number self.old.seats) }
         ensures left { self.new ≡ record { seats = without number self.old.seats; given = self.old.given } }
     {

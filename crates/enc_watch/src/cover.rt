@@ -35,11 +35,7 @@ impl Cover {
 }
 
 impl Watcher for Cover {
-    ghost heard = { λ c. c };
-
-    ghost limit = { λ _. None };
-
-    ghost kind_of = { λ _. kind.Cover };
+    ghost watching = { λ c. record { kind = kind.Cover; limit = None; heard = c } };
 
     fn kind(&self) -> WatchKind {
         WatchKind::Cover

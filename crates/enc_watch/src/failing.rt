@@ -36,11 +36,7 @@ impl Failing {
 }
 
 impl Watcher for Failing {
-    ghost heard = { λ f. f.events };
-
-    ghost limit = { λ f. Some f.after };
-
-    ghost kind_of = { λ _. kind.Failing };
+    ghost watching = { λ f. record { kind = kind.Failing; limit = Some f.after; heard = f.events } };
 
     fn kind(&self) -> WatchKind {
         WatchKind::Failing

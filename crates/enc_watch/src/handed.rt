@@ -18,8 +18,7 @@ impl<W: Watcher> Model for Handed<W> {
 
     ghost Value = { List Watching };
 
-    ghost view = { λ h. map (λ w. record { kind = W.kind_of w; limit = W.limit w; heard = W.heard w })
-        h.watchers.items };
+    ghost view = { λ h. map W.watching h.watchers.items };
 }
 
 /// Whether two kinds are one.
@@ -37,30 +36,13 @@ fn is_kind(a: WatchKind, b: WatchKind) -> bool
 /// The place of the first of a kind, None where there is none.
 fn place_of<W: Watcher>(watchers: &[W], kind: WatchKind) -> Option<usize>
     ensures none { IfNone result (first_of_kind kind
-        (map (λ w. record { kind = W.kind_of w; limit = W.limit w; heard = W.heard w }) watchers.now) ≡ None) }
+        (map W.watching watchers.now) ≡ None) }
     ensures low { IfSome result (λ i. i < length watchers.now) }
-    ensures first { IfSome result (λ i. first_of_kind kind (map (λ w. record {
-      kind = W.kind_of w;
-      limit = W.limit w;
-      heard = W.heard w;
-    }) watchers.now) ≡ slice_get
-        (map (λ w. record { kind = W.kind_of w; limit = W.limit w; heard = W.heard w }) watchers.now) i) }
-    ensures rest { IfSome result (λ i. without_kind kind (map (λ w. record {
-      kind = W.kind_of w;
-      limit = W.limit w;
-      heard = W.heard w;
-    }) watchers.now)
-        ≡ remove (map (λ w. record { kind = W.kind_of w; limit = W.limit w; heard = W.heard w }) watchers.now) i) }
-    ensures all { IfNone result (without_kind kind (map (λ w. record {
-      kind = W.kind_of w;
-      limit = W.limit w;
-      heard = W.heard w;
-    }) watchers.now) ≡ map (λ w. record {
-      kind = W.kind_of w;
-      limit = W.limit w;
-      heard =
-          W.heard w;
-    }) watchers.now) }
+    ensures first { IfSome result (λ i. first_of_kind kind (map W.watching watchers.now) ≡ slice_get
+        (map W.watching watchers.now) i) }
+    ensures rest { IfSome result (λ i. without_kind kind (map W.watching watchers.now)
+        ≡ remove (map W.watching watchers.now) i) }
+    ensures all { IfNone result (without_kind kind (map W.watching watchers.now) ≡ map W.watching watchers.now) }
 {
     for i in 0..watchers.len() {
         if is_kind(watchers[i].kind(), kind) {
@@ -73,15 +55,14 @@ fn place_of<W: Watcher>(watchers: &[W], kind: WatchKind) -> Option<usize>
 impl<W: Watcher> Handed<W> {
     /// These watchers.
     pub fn from_vec(watchers: Vec<W>) -> Handed<W>
-        ensures { result ≡ map (λ w. record { kind = W.kind_of w; limit = W.limit w; heard = W.heard w })
-            watchers.items }
+        ensures { result ≡ map W.watching watchers.items }
     {
         Handed { watchers }
     }
 
     /// Takes the first of a kind, None where there is none.
     pub fn take(&mut self, kind: WatchKind) -> Option<W>
-        ensures taken { option_map (λ w. record { kind = W.kind_of w; limit = W.limit w; heard = W.heard w }) result
+        ensures taken { option_map W.watching result
             ≡ first_of_kind kind self.old }
         ensures left { self.new ≡ without_kind kind self.old }
     {

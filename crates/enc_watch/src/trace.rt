@@ -42,11 +42,7 @@ impl Trace {
 }
 
 impl Watcher for Trace {
-    ghost heard = { λ t. t };
-
-    ghost limit = { λ _. None };
-
-    ghost kind_of = { λ _. kind.Trace };
+    ghost watching = { λ t. record { kind = kind.Trace; limit = None; heard = t } };
 
     fn kind(&self) -> WatchKind {
         WatchKind::Trace

@@ -4,11 +4,12 @@ ghost use Rattle.enc_outside.specs.Outside.{HasCause};
 ghost use Rattle.enc_command_line.specs.Words.{texts};
 ghost use Rattle.enc_commands.specs.Verdict.{accept as accept_from, accept_text as text_from};
 ghost use Rattle.enc_commands.specs.Stops.{Comes, StopsQuietly};
-ghost use Rattle.enc_commands.specs.Loads.{followed, texted, HaveGone, KnowWithin};
+ghost use Rattle.enc_commands.specs.Loads.{followed, texted, HaveGone};
 
-use crate::judge::{Judged, judge_all};
+use crate::halt::Halt;
+use crate::judge::judge_all;
 use crate::load::{Loaded, load_base, load_deltas};
-use crate::stop::Stop;
+use enc_chain::Chain;
 use enc_outside::Store;
 use std::alloc::Global;
 
@@ -19,13 +20,12 @@ pub fn accept<S: Store>(
     base: &str,
     deltas: &[String],
     store: &mut S,
-) -> Result<Judged, Stop>
-    ensures cause { HasCause Stop.Failed (S.faults store.old) (S.faults store.new) result }
+) -> Result<Chain, Halt>
+    ensures cause { HasCause Halt.Failed (S.faults store.old) (S.faults store.new) result }
     ensures stays { S.told store.new ≡ S.told store.old }
     ensures step { IfSome (S.told store.old)
         (λ files. Comes followed result (accept_from files base.now (texts deltas.now))) }
     ensures quiet { StopsQuietly result }
-    ensures within { IfOk result (λ j. KnowWithin j) }
     ensures gone { IfOk result (λ j. HaveGone (length deltas.now) j) }
 {
     let mut loaded = Loaded::nothing();
@@ -37,7 +37,7 @@ pub fn accept<S: Store>(
 /// A base with its deltas, and the text of an edit list to follow them.
 #[derive(Drop)]
 pub struct Texted {
-    pub judged: Judged,
+    pub judged: Chain,
     pub text: Vec<u8>,
 }
 
@@ -49,13 +49,12 @@ pub fn accept_text<S: Store>(
     edits: &str,
     deltas: &[String],
     store: &mut S,
-) -> Result<Texted, Stop>
-    ensures cause { HasCause Stop.Failed (S.faults store.old) (S.faults store.new) result }
+) -> Result<Texted, Halt>
+    ensures cause { HasCause Halt.Failed (S.faults store.old) (S.faults store.new) result }
     ensures stays { S.told store.new ≡ S.told store.old }
     ensures step { IfSome (S.told store.old)
         (λ files. Comes texted result (text_from files base.now edits.now (texts deltas.now))) }
     ensures quiet { StopsQuietly result }
-    ensures within { IfOk result (λ t. KnowWithin t.judged) }
 {
     let mut loaded = Loaded::nothing();
     let file = load_base(alloc, base, &mut loaded, store)?;

@@ -6,14 +6,14 @@ ghost use Rattle.enc_command_line.specs.Words.{texts};
 ghost use Rattle.enc_commands.specs.Verdict.{dll, pdb, past_limit, file_past as file_of_limit, rewrite_on, apply_on};
 ghost use Rattle.enc_commands.specs.Plans.{IsPlanOf, saves_of};
 ghost use Rattle.enc_commands.specs.Stops.{OnPlan, IfPlan, IsQuiet, IsUnwritten};
-ghost use Rattle.enc_commands.specs.Loads.{followed, KnowWithin};
+ghost use Rattle.enc_commands.specs.Loads.{followed};
 
 use crate::commands::accept::accept;
-use crate::judge::Judged;
+use crate::halt::Halt;
 use crate::plan::{Outcome, Plan};
 use crate::plans::too_long;
-use crate::stop::Stop;
 use enc_base::StreamName;
+use enc_chain::Chain;
 use enc_command_line::{Limit, saved_line};
 use enc_outside::Store;
 use enc_rewriter::{RewriteFault, Rewritten, rewrite};
@@ -31,25 +31,25 @@ fn file_past(alloc: Global, out: &str, limit: Limit) -> Result<String, AllocErro
 }
 
 /// The stop at a limit that would be passed.
-fn past(alloc: Global, out: &str, limit: Limit) -> Stop
+fn past(alloc: Global, out: &str, limit: Limit) -> Halt
     ensures plan { OnPlan result (IsPlanOf (Err (past_limit (file_of_limit out.now limit) limit))) }
     ensures quiet { OnPlan result IsQuiet }
-    ensures no_fault { result ≢ Stop.Failed }
+    ensures no_fault { result ≢ Halt.Failed }
 {
     match file_past(alloc, out, limit) {
         Ok(name) => too_long(alloc, name.as_str(), limit),
-        Err(_) => Stop::Memory,
+        Err(_) => Halt::Memory,
     }
 }
 
 /// The stop at a module that isn't written.
-pub fn unwritten(alloc: Global, out: &str, fault: RewriteFault) -> Stop
+pub fn unwritten(alloc: Global, out: &str, fault: RewriteFault) -> Halt
     ensures plan { IsUnwritten out.now fault result }
     ensures quiet { OnPlan result IsQuiet }
-    ensures no_fault { result ≢ Stop.Failed }
+    ensures no_fault { result ≢ Halt.Failed }
 {
     match fault {
-        RewriteFault::Memory => Stop::Memory,
+        RewriteFault::Memory => Halt::Memory,
         RewriteFault::TooLarge(heap) => past(alloc, out, Limit::Heap(heap)),
         RewriteFault::Image => past(alloc, out, Limit::Image),
     }
@@ -84,16 +84,16 @@ pub fn saving(alloc: Global, out: &str, written: Rewritten) -> Result<Plan, Allo
 }
 
 /// The plan of what is written of an accepted chain.
-fn rewritten(alloc: Global, out: &str, judged: &Judged) -> Result<Plan, Stop>
-    requires { KnowWithin judged.now }
+fn rewritten(alloc: Global, out: &str, judged: &Chain) -> Result<Plan, Halt>
     ensures plan { IfPlan result (IsPlanOf (rewrite_on out.now (followed judged.now))) }
     ensures told { IfPlan result (λ plan. plan.outcome ≢ Outcome.Usage) }
     ensures kept { IfPlan result (λ plan. (plan.outcome ≡ Outcome.Accepted) ⊎ (plan.saves.items ≡ [])) }
-    ensures no_fault { ¬ (IsErrOf result Stop.Failed) }
+    ensures no_fault { ¬ (IsErrOf result Halt.Failed) }
 {
-    judged.agg.sound();
-    judged.debug.sound();
-    match rewrite(alloc, &judged.agg, &judged.debug) {
+    judged.holds();
+    judged.rows().sound();
+    judged.points().sound();
+    match rewrite(alloc, judged.rows(), judged.points()) {
         Ok(written) => Ok(saving(alloc, out, written)?),
         Err(fault) => Err(unwritten(alloc, out, fault)),
     }
@@ -106,8 +106,8 @@ pub fn apply<S: Store>(
     out: &str,
     deltas: &[String],
     store: &mut S,
-) -> Result<Plan, Stop>
-    ensures cause { HasCause Stop.Failed (S.faults store.old) (S.faults store.new) result }
+) -> Result<Plan, Halt>
+    ensures cause { HasCause Halt.Failed (S.faults store.old) (S.faults store.new) result }
     ensures stays { S.told store.new ≡ S.told store.old }
     ensures plan { IfSome (S.told store.old)
         (λ files. IfPlan result (IsPlanOf (apply_on files base.now out.now (texts deltas.now)))) }

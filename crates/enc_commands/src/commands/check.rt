@@ -9,11 +9,11 @@ ghost use Rattle.enc_commands.specs.Stops.{IfPlan, IsQuiet};
 ghost use Rattle.enc_commands.specs.Loads.{followed};
 
 use crate::commands::accept::accept;
-use crate::judge::Judged;
+use crate::halt::Halt;
 use crate::plan::{Outcome, Plan};
 use crate::plans::saving_nothing;
-use crate::stop::Stop;
 use enc_agg::Aggregate;
+use enc_chain::Chain;
 use enc_command_line::push_accepted;
 use enc_outside::Store;
 use enc_plain::ChainView;
@@ -28,12 +28,12 @@ fn delta_count(agg: &Aggregate) -> u32
 
 /// That so many deltas are accepted: all.
 #[tactic(auto, unfolding(crate::specs::Done::counted_as))]
-fn count(alloc: Global, judged: &Judged) -> Result<Plan, AllocError>
+fn count(alloc: Global, judged: &Chain) -> Result<Plan, AllocError>
     ensures plan { IfOk result (IsPlanOf (Ok (counts (followed judged.now)))) }
     ensures quiet { IfOk result IsQuiet }
 {
     let mut output = Vec::new(alloc);
-    push_accepted(alloc, &mut output, delta_count(&judged.agg))?;
+    push_accepted(alloc, &mut output, delta_count(judged.rows()))?;
     Ok(saving_nothing(alloc, Outcome::Accepted, output))
 }
 
@@ -43,8 +43,8 @@ pub fn check<S: Store>(
     base: &str,
     deltas: &[String],
     store: &mut S,
-) -> Result<Plan, Stop>
-    ensures cause { HasCause Stop.Failed (S.faults store.old) (S.faults store.new) result }
+) -> Result<Plan, Halt>
+    ensures cause { HasCause Halt.Failed (S.faults store.old) (S.faults store.new) result }
     ensures stays { S.told store.new ≡ S.told store.old }
     ensures plan { IfSome (S.told store.old)
         (λ files. IfPlan result (IsPlanOf (check_on files base.now (texts deltas.now)))) }

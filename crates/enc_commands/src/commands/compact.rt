@@ -9,13 +9,13 @@ ghost use Rattle.enc_command_line.specs.Words.{texts};
 ghost use Rattle.enc_commands.specs.Verdict.{dll, pdb, plain_of, compacted_on, compact_on};
 ghost use Rattle.enc_commands.specs.Plans.{IsPlanOf, saves_of};
 ghost use Rattle.enc_commands.specs.Stops.{IfPlan};
-ghost use Rattle.enc_commands.specs.Loads.{followed, KnowWithin};
+ghost use Rattle.enc_commands.specs.Loads.{followed};
 
 use crate::commands::accept::accept;
 use crate::commands::apply::{saving, unwritten};
-use crate::judge::Judged;
+use crate::halt::Halt;
 use crate::plan::{Outcome, Plan};
-use crate::stop::Stop;
+use enc_chain::Chain;
 use enc_command_line::push_moves;
 use enc_compact::{Order, compact as compacted, compact_laws, moved_rows};
 use enc_outside::Store;
@@ -28,7 +28,7 @@ fn saving_moved(
     alloc: Global,
     out: &str,
     written: Rewritten,
-    judged: &Judged,
+    judged: &Chain,
     order: &Order,
 ) -> Result<Plan, AllocError>
     requires { list_at order.now ≡ new_order (plain_of (followed judged.now)) }
@@ -41,24 +41,24 @@ fn saving_moved(
     ) ∷ []) }
 {
     let mut plan = saving(alloc, out, written)?;
-    let moves = moved_rows(alloc, &judged.agg, order)?;
+    let moves = moved_rows(alloc, judged.rows(), order)?;
     push_moves(&mut plan.output, &moves)?;
     Ok(plan)
 }
 
 /// The plan of what is written of an accepted chain in the order of an ordinary module.
-fn rewritten(alloc: Global, out: &str, judged: &Judged) -> Result<Plan, Stop>
-    requires { KnowWithin judged.now }
+fn rewritten(alloc: Global, out: &str, judged: &Chain) -> Result<Plan, Halt>
     ensures plan { IfPlan result (IsPlanOf (compacted_on out.now (followed judged.now))) }
     ensures told { IfPlan result (λ plan. plan.outcome ≢ Outcome.Usage) }
     ensures kept { IfPlan result (λ plan. (plan.outcome ≡ Outcome.Accepted) ⊎ (plan.saves.items ≡ [])) }
-    ensures no_fault { ¬ (IsErrOf result Stop.Failed) }
+    ensures no_fault { ¬ (IsErrOf result Halt.Failed) }
 {
-    judged.agg.sound();
-    judged.debug.sound();
+    judged.holds();
+    judged.rows().sound();
+    judged.points().sound();
     compact_laws();
-    let Ok(ordinary) = compacted(alloc, &judged.agg, &judged.debug) else {
-        return Err(Stop::Memory);
+    let Ok(ordinary) = compacted(alloc, judged.rows(), judged.points()) else {
+        return Err(Halt::Memory);
     };
     match rewrite(alloc, &ordinary.module, &ordinary.points) {
         Ok(written) => Ok(saving_moved(alloc, out, written, judged, &ordinary.order)?),
@@ -73,8 +73,8 @@ pub fn compact<S: Store>(
     out: &str,
     deltas: &[String],
     store: &mut S,
-) -> Result<Plan, Stop>
-    ensures cause { HasCause Stop.Failed (S.faults store.old) (S.faults store.new) result }
+) -> Result<Plan, Halt>
+    ensures cause { HasCause Halt.Failed (S.faults store.old) (S.faults store.new) result }
     ensures stays { S.told store.new ≡ S.told store.old }
     ensures plan { IfSome (S.told store.old)
         (λ files. IfPlan result (IsPlanOf (compact_on files base.now out.now (texts deltas.now)))) }

@@ -1,28 +1,29 @@
 //! The command `gen`: a generated base, the deltas of generated edit lists, and the module after all.
-ghost use Rattle.std.specs.Prelude.{◌≡◌, ◌≤◌, ◌<◌, ◌+◌, ◌++◌, ◌∷◌, [], Ok, Some, None, length, take, IsTrue, IfOk, OnOk, IsErrOf, string_bytes, map};
+ghost use Rattle.std.specs.Prelude.{◌≡◌, ◌≤◌, ◌+◌, ◌++◌, ◌∷◌, [], Ok, Some, None, take, IsTrue, IfOk, OnOk, IsErrOf, string_bytes, map};
 ghost use Rattle.enc_base.specs.Tables.{method_def};
 ghost use Rattle.enc_plain.specs.Sound.{row_count};
 ghost use Rattle.enc_ppdb.specs.Written.{MeansPdb};
 ghost use Rattle.enc_rewriter.specs.Limits.{IsFault};
 ghost use Rattle.enc_rewriter.specs.Rewritten.{MeansModule, RewritesTo};
-ghost use Rattle.enc_jobs.specs.Generated.{generated_base, generated_lists, edited_by};
+ghost use Rattle.enc_generator.specs.Generated.{generated_base, generated_lists, edited_by};
 ghost use Rattle.enc_commands.specs.Verdict.{meta, pdb, generates, plain_of, debug_after};
 ghost use Rattle.enc_commands.specs.Generating.{no_points, delta_name, last_name};
 ghost use Rattle.enc_command_line.specs.Case.{case_line as line_of_case};
-ghost use Rattle.enc_commands.specs.Series.{AreDrawn, IsSeries, StandAt, NothingSaid};
+ghost use Rattle.enc_commands.specs.Series.{AreDrawn, IsAt, IsSeries, StandAt, NothingSaid};
 ghost use Rattle.enc_command_line.specs.Commands.{numeral_seen};
 ghost use Rattle.enc_commands.specs.Plans.{IsPlanOf};
 ghost use Rattle.enc_commands.specs.Stops.{IfPlan};
 ghost use Rattle.enc_commands.specs.Loads.{base_seen, file_seen, followed};
 
-use crate::judge::{Judged, judge_all, judge_delta};
+use crate::halt::Halt;
+use crate::judge::{judge_all, judge_delta};
 use crate::load::{BaseFile, DeltaFile};
 use crate::plan::{Outcome, Plan};
-use crate::stop::Stop;
+use enc_chain::Chain;
 use enc_checker::within_law;
 use enc_command_line::{Number, case_line};
 use enc_emit::DeltaBytes;
-use enc_jobs::{EditLists, case_laws, generated_laws, make_case};
+use enc_generator::{EditLists, case_laws, generated_laws, make_case};
 use enc_memory_module::PlainModule;
 use enc_ppdb::PdbChain;
 use enc_rewriter::{RewriteFault, Rewritten, rewrite};
@@ -33,7 +34,7 @@ use std::alloc::{AllocError, Global};
 /// What was made so far: the base with its deltas, and the files to be saved.
 #[derive(Drop)]
 pub struct Series {
-    pub held: Judged,
+    pub held: Chain,
     pub saves: Vec<Save>,
 }
 
@@ -66,11 +67,11 @@ fn delta_file(alloc: Global, name: &str, files: &DeltaBytes) -> Result<DeltaFile
 }
 
 /// The base that was written, with nothing behind it yet.
-fn begun(alloc: Global, out: &str, written: Rewritten) -> Result<Series, Stop>
+fn begun(alloc: Global, out: &str, written: Rewritten) -> Result<Series, Halt>
     requires { RewritesTo generated_base no_points written.image written.pdb }
     ensures series { IfOk result (λ s. IsSeries out.now [] s) }
     ensures said { NothingSaid result }
-    ensures no_fault { ¬ (IsErrOf result Stop.Failed) }
+    ensures no_fault { ¬ (IsErrOf result Halt.Failed) }
 {
     case_laws();
     let file = base_file(alloc, &written)?;
@@ -81,23 +82,23 @@ fn begun(alloc: Global, out: &str, written: Rewritten) -> Result<Series, Stop>
 }
 
 /// Why a module that passes no limit isn't written: there is no memory.
-fn want_of_memory(fault: RewriteFault) -> Stop
+fn want_of_memory(fault: RewriteFault) -> Halt
     requires { IsFault fault None }
-    ensures { result ≡ Stop.Memory }
+    ensures { result ≡ Halt.Memory }
 {
     match fault {
-        RewriteFault::Memory => Stop::Memory,
+        RewriteFault::Memory => Halt::Memory,
         RewriteFault::TooLarge(_) => unreachable!(),
         RewriteFault::Image => unreachable!(),
     }
 }
 
 /// The base, written with a PDB in which nothing is known. It passes no limit.
-fn begin(alloc: Global, out: &str, base: &PlainModule) -> Result<Series, Stop>
+fn begin(alloc: Global, out: &str, base: &PlainModule) -> Result<Series, Halt>
     requires { base.now.plain ≡ generated_base }
     ensures series { IfOk result (λ s. IsSeries out.now [] s) }
     ensures said { NothingSaid result }
-    ensures no_fault { ¬ (IsErrOf result Stop.Failed) }
+    ensures no_fault { ¬ (IsErrOf result Halt.Failed) }
 {
     within_law();
     case_laws();
@@ -127,15 +128,12 @@ fn add_delta(
     k: usize,
     files: DeltaBytes,
     series: &mut Series,
-) -> Result<(), Stop>
-    requires there { k < length lists.now }
-    requires few { length lists.now ≤ 64 }
-    requires drawn { AreDrawn lists.now }
-    requires series { IsSeries out.now (take k lists.now) series.old }
+) -> Result<(), Halt>
+    requires at { IsAt out.now lists.now k series.old }
     requires stand { StandAt lists.now k series.old files }
     ensures series { OnOk result (IsSeries out.now (take (k + 1) lists.now) series.new) }
     ensures said { NothingSaid result }
-    ensures no_fault { ¬ (IsErrOf result Stop.Failed) }
+    ensures no_fault { ¬ (IsErrOf result Halt.Failed) }
 {
     generated_laws();
     case_laws();
@@ -153,33 +151,29 @@ fn add_list(
     lists: &EditLists,
     k: usize,
     series: &mut Series,
-) -> Result<(), Stop>
-    requires there { k < length lists.now }
-    requires few { length lists.now ≤ 64 }
-    requires drawn { AreDrawn lists.now }
-    requires series { IsSeries out.now (take k lists.now) series.old }
+) -> Result<(), Halt>
+    requires at { IsAt out.now lists.now k series.old }
     ensures series { OnOk result (IsSeries out.now (take (k + 1) lists.now) series.new) }
     ensures said { NothingSaid result }
-    ensures no_fault { ¬ (IsErrOf result Stop.Failed) }
+    ensures no_fault { ¬ (IsErrOf result Halt.Failed) }
 {
     generated_laws();
     case_laws();
     let list = &lists.as_slice()[k];
-    match write_delta(alloc, &series.held.agg, list) {
+    match write_delta(alloc, series.held.rows(), list) {
         Ok(files) => add_delta(alloc, out, lists, k, files, series),
-        Err(EditFault::Memory) => Err(Stop::Memory),
+        Err(EditFault::Memory) => Err(Halt::Memory),
         Err(EditFault::Broken(..)) => unreachable!(),
     }
 }
 
 /// Adds the deltas of all lists.
-fn add_lists(alloc: Global, out: &str, lists: &EditLists, series: &mut Series) -> Result<(), Stop>
-    requires few { length lists.now ≤ 64 }
+fn add_lists(alloc: Global, out: &str, lists: &EditLists, series: &mut Series) -> Result<(), Halt>
     requires drawn { AreDrawn lists.now }
     requires series { IsSeries out.now [] series.old }
     ensures series { OnOk result (IsSeries out.now lists.now series.new) }
     ensures said { NothingSaid result }
-    ensures no_fault { ¬ (IsErrOf result Stop.Failed) }
+    ensures no_fault { ¬ (IsErrOf result Halt.Failed) }
 {
     for k in 0..lists.len() {
         add_list(alloc, out, lists, k, series)?;
@@ -205,7 +199,7 @@ fn ended(
     ensures told { IfOk result (λ plan. plan.outcome ≡ Outcome.Accepted) }
 {
     let Series { held, mut saves } = series;
-    let output = case_line(alloc, start.digits, count.digits, &held.agg)?;
+    let output = case_line(alloc, start.digits, count.digits, held.rows())?;
     let name = name_of(alloc, out, "_all")?;
     push_module(alloc, name.as_str(), written, &mut saves)?;
     Ok(Plan {
@@ -222,18 +216,19 @@ fn end(
     count: Number<'_>,
     out: &str,
     series: Series,
-) -> Result<Plan, Stop>
+) -> Result<Plan, Halt>
     requires few { count.value ≤ 64 }
     requires series { IsSeries out.now (generated_lists start.value count.value) series }
     ensures plan { IfPlan result (IsPlanOf
         (Ok (generates (numeral_seen start.entry) (numeral_seen count.entry) out.now))) }
     ensures told { IfPlan result (λ plan. plan.outcome ≡ Outcome.Accepted) }
-    ensures no_fault { ¬ (IsErrOf result Stop.Failed) }
+    ensures no_fault { ¬ (IsErrOf result Halt.Failed) }
 {
     case_laws();
-    series.held.agg.sound();
-    series.held.debug.sound();
-    match rewrite(alloc, &series.held.agg, &series.held.debug) {
+    series.held.holds();
+    series.held.rows().sound();
+    series.held.points().sound();
+    match rewrite(alloc, series.held.rows(), series.held.points()) {
         Ok(written) => Ok(ended(alloc, start, count, out, series, written)?),
         Err(fault) => Err(want_of_memory(fault)),
     }
@@ -245,12 +240,12 @@ pub fn generate(
     start: Number<'_>,
     count: Number<'_>,
     out: &str,
-) -> Result<Plan, Stop>
+) -> Result<Plan, Halt>
     requires few { count.value ≤ 64 }
     ensures plan { IfPlan result (IsPlanOf
         (Ok (generates (numeral_seen start.entry) (numeral_seen count.entry) out.now))) }
     ensures told { IfPlan result (λ plan. plan.outcome ≡ Outcome.Accepted) }
-    ensures no_fault { ¬ (IsErrOf result Stop.Failed) }
+    ensures no_fault { ¬ (IsErrOf result Halt.Failed) }
 {
     let case = make_case(alloc, start.value, count.value as u32)?;
     let mut series = begin(alloc, out, &case.base)?;

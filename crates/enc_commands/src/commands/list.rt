@@ -9,22 +9,22 @@ ghost use Rattle.enc_commands.specs.Stops.{IfPlan, IsQuiet};
 ghost use Rattle.enc_commands.specs.Loads.{followed};
 
 use crate::commands::accept::accept;
-use crate::judge::Judged;
+use crate::halt::Halt;
 use crate::plan::{Outcome, Plan};
 use crate::plans::saving_nothing;
-use crate::stop::Stop;
+use enc_chain::Chain;
 use enc_command_line::listing;
 use enc_outside::Store;
 use std::alloc::{AllocError, Global};
 
 /// The listing of an aggregate.
 #[tactic(auto, unfolding(crate::specs::Done::listed_as))]
-fn lines(alloc: Global, judged: &Judged) -> Result<Plan, AllocError>
+fn lines(alloc: Global, judged: &Chain) -> Result<Plan, AllocError>
     ensures plan { IfOk result (IsPlanOf (Ok (lists (followed judged.now)))) }
     ensures quiet { IfOk result IsQuiet }
 {
     let mut output = Vec::new(alloc);
-    listing(alloc, &judged.agg, &mut output)?;
+    listing(alloc, judged.rows(), &mut output)?;
     Ok(saving_nothing(alloc, Outcome::Accepted, output))
 }
 
@@ -34,8 +34,8 @@ pub fn list<S: Store>(
     base: &str,
     deltas: &[String],
     store: &mut S,
-) -> Result<Plan, Stop>
-    ensures cause { HasCause Stop.Failed (S.faults store.old) (S.faults store.new) result }
+) -> Result<Plan, Halt>
+    ensures cause { HasCause Halt.Failed (S.faults store.old) (S.faults store.new) result }
     ensures stays { S.told store.new ≡ S.told store.old }
     ensures plan { IfSome (S.told store.old)
         (λ files. IfPlan result (IsPlanOf (list_on files base.now (texts deltas.now)))) }

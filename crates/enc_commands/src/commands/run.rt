@@ -12,11 +12,11 @@ ghost use Rattle.enc_commands.specs.Loads.{base_followed, file_seen};
 ghost use Rattle.enc_commands.specs.Stops.{Comes, IfPlan, StopsQuietly};
 
 use super::named::delta_names;
+use crate::halt::Halt;
 use crate::judge::{JudgedBase, judge_first};
 use crate::load::{DeltaFile, Loaded, load_base, load_deltas};
 use crate::plan::{Outcome, Plan};
 use crate::plans::{saving_nothing, unlisted};
-use crate::stop::Stop;
 use enc_checker::Files;
 use enc_jobs::{Script, read_script, script_laws};
 use enc_outside::Store;
@@ -25,12 +25,12 @@ use enc_watch::Watcher;
 use std::alloc::{AllocError, Global};
 
 /// The script that a file says.
-fn read_commands(alloc: Global, name: &str, text: &[u8]) -> Result<Script, Stop>
+fn read_commands(alloc: Global, name: &str, text: &[u8]) -> Result<Script, Halt>
     ensures step { Comes (λ (l : List OneCommand). l) result (list_in_file name.now (script_said text.now)) }
     ensures few { IfOk result (λ (l : List OneCommand). length l < 2 ^ 32) }
     ensures names { IfOk result (λ (l : List OneCommand). list_all names_a_delta l ≡ true) }
     ensures quiet { StopsQuietly result }
-    ensures no_fault { ¬ (IsErrOf result Stop.Failed) }
+    ensures no_fault { ¬ (IsErrOf result Halt.Failed) }
 {
     script_laws();
     match read_script(alloc, text) {
@@ -72,9 +72,9 @@ fn load_named<S: Store>(
     script: &Script,
     loaded: &mut Loaded,
     store: &mut S,
-) -> Result<Vec<NamedDelta>, Stop>
+) -> Result<Vec<NamedDelta>, Halt>
     requires { list_all names_a_delta script.now ≡ true }
-    ensures cause { HasCause Stop.Failed (S.faults store.old) (S.faults store.new) result }
+    ensures cause { HasCause Halt.Failed (S.faults store.old) (S.faults store.new) result }
     ensures stays { S.told store.new ≡ S.told store.old }
     ensures step { IfSome (S.told store.old)
         (λ files. Comes (λ ds. map named_delta ds.items) result (named_from files script.now loaded.old)) }
@@ -95,7 +95,7 @@ fn ran<W: Watcher>(
 ) -> Result<Plan, AllocError>
     requires { length script.now < 2 ^ 32 }
     ensures plan { IfOk result (λ plan. IsPlanOf
-        (Ok (runs (map (λ w. record { kind = W.kind_of w; limit = W.limit w; heard = W.heard w }) watchers.items)
+        (Ok (runs (map W.watching watchers.items)
         (base_followed base) (map named_delta deltas.now) script.now)) plan) }
 {
     let mut text = Vec::new(alloc);
@@ -120,11 +120,11 @@ pub fn run<S: Store, W: Watcher>(
     script: &str,
     store: &mut S,
     watchers: Vec<W>,
-) -> Result<Plan, Stop>
-    ensures cause { HasCause Stop.Failed (S.faults store.old) (S.faults store.new) result }
+) -> Result<Plan, Halt>
+    ensures cause { HasCause Halt.Failed (S.faults store.old) (S.faults store.new) result }
     ensures stays { S.told store.new ≡ S.told store.old }
     ensures plan { IfSome (S.told store.old) (λ files. IfPlan result (IsPlanOf
-        (run_on (map (λ w. record { kind = W.kind_of w; limit = W.limit w; heard = W.heard w }) watchers.items) files
+        (run_on (map W.watching watchers.items) files
         base.now script.now))) }
     ensures told { IfPlan result (λ plan. plan.outcome ≢ Outcome.Usage) }
     ensures kept { IfPlan result (λ plan. (plan.outcome ≡ Outcome.Accepted) ⊎ (plan.saves.items ≡ [])) }

@@ -12,12 +12,12 @@ ghost use Rattle.enc_commands.specs.Stops.{IfPlan, IsQuiet};
 ghost use Rattle.enc_commands.specs.Loads.{followed};
 
 use crate::commands::accept::accept;
-use crate::judge::Judged;
+use crate::halt::Halt;
 use crate::plan::{Outcome, Plan};
 use crate::plans::saving_nothing;
-use crate::stop::Stop;
 use enc_agg::{Aggregate, RowPlace};
 use enc_base::{Steps, Token};
+use enc_chain::Chain;
 use enc_command_line::push_absent;
 use enc_outside::Store;
 use enc_text::row_text;
@@ -38,13 +38,20 @@ fn located<L: Ledger>(agg: &Aggregate, token: Token, blank: Blank) -> Option<Row
 
 /// The row of a token, or that there is none.
 #[tactic(auto, unfolding(crate::specs::Done::shown, crate::specs::Done::row_or_absent))]
-fn row(alloc: Global, judged: &Judged, token: Token) -> Result<Plan, AllocError>
+fn row(alloc: Global, judged: &Chain, token: Token) -> Result<Plan, AllocError>
     ensures plan { IfOk result (IsPlanOf (Ok (shows token (followed judged.now)))) }
     ensures quiet { IfOk result IsQuiet }
 {
     let mut output = Vec::new(alloc);
-    match located::<Brand>(&judged.agg, token, Blank::new(1)) {
-        Some(place) => row_text(alloc, &judged.agg, &judged.debug, place, token, &mut output)?,
+    match located::<Brand>(judged.rows(), token, Blank::new(1)) {
+        Some(place) => row_text(
+            alloc,
+            judged.rows(),
+            judged.points(),
+            place,
+            token,
+            &mut output,
+        )?,
         None => push_absent(&mut output, token)?,
     }
     Ok(saving_nothing(alloc, Outcome::Accepted, output))
@@ -57,8 +64,8 @@ pub fn show<S: Store>(
     token: Token,
     deltas: &[String],
     store: &mut S,
-) -> Result<Plan, Stop>
-    ensures cause { HasCause Stop.Failed (S.faults store.old) (S.faults store.new) result }
+) -> Result<Plan, Halt>
+    ensures cause { HasCause Halt.Failed (S.faults store.old) (S.faults store.new) result }
     ensures stays { S.told store.new ≡ S.told store.old }
     ensures plan { IfSome (S.told store.old)
         (λ files. IfPlan result (IsPlanOf (show_on files base.now token (texts deltas.now)))) }

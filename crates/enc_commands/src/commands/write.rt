@@ -14,10 +14,10 @@ ghost use Rattle.enc_commands.specs.Stops.{Comes, IfPlan, StopsQuietly};
 ghost use Rattle.enc_commands.specs.Loads.{followed, texted as text_accepted};
 
 use crate::commands::accept::{Texted, accept_text};
-use crate::judge::Judged;
+use crate::halt::Halt;
 use crate::plan::{Outcome, Plan};
 use crate::plans::{broken, unlisted};
-use crate::stop::Stop;
+use enc_chain::Chain;
 use enc_command_line::saved_line;
 use enc_edit_list::EditList;
 use enc_emit::DeltaBytes;
@@ -28,12 +28,12 @@ use enc_writer::{EditFault, write_delta};
 use std::alloc::{AllocError, Global};
 
 /// The edit list that a file says.
-fn read_list(alloc: Global, name: &str, text: &[u8]) -> Result<EditList, Stop>
+fn read_list(alloc: Global, name: &str, text: &[u8]) -> Result<EditList, Halt>
     ensures step { Comes (λ (l : EditList). l) result (list_in_file name.now (edits_said text.now)) }
     ensures form { IfOk result (λ l. IsTrue (list_fits l)) }
     ensures points { IfOk result (λ l. IsTrue (list_all points_lie_within l.edits)) }
     ensures quiet { StopsQuietly result }
-    ensures no_fault { ¬ (IsErrOf result Stop.Failed) }
+    ensures no_fault { ¬ (IsErrOf result Halt.Failed) }
 {
     match read_edits(alloc, text) {
         Ok(list) => Ok(list),
@@ -96,30 +96,30 @@ fn written(
     alloc: Global,
     name: &str,
     out: &str,
-    judged: &Judged,
+    judged: &Chain,
     list: &EditList,
-) -> Result<Plan, Stop>
+) -> Result<Plan, Halt>
     requires form { IsTrue (list_fits list.now) }
     requires points { IsTrue (list_all points_lie_within list.now.edits) }
     ensures plan { IfPlan result (IsPlanOf
         (edits_on name.now out.now (record { followed = followed judged.now; list = list.now }))) }
     ensures told { IfPlan result (λ plan. plan.outcome ≢ Outcome.Usage) }
     ensures kept { IfPlan result (λ plan. (plan.outcome ≡ Outcome.Accepted) ⊎ (plan.saves.items ≡ [])) }
-    ensures no_fault { ¬ (IsErrOf result Stop.Failed) }
+    ensures no_fault { ¬ (IsErrOf result Halt.Failed) }
 {
-    match write_delta(alloc, &judged.agg, list) {
+    match write_delta(alloc, judged.rows(), list) {
         Ok(files) => Ok(saving(alloc, out, files)?),
-        Err(EditFault::Memory) => Err(Stop::Memory),
+        Err(EditFault::Memory) => Err(Halt::Memory),
         Err(EditFault::Broken(rule, edit)) => Err(broken(alloc, name, rule, edit)),
     }
 }
 
 /// The plan of the text of an edit list after a base with its deltas.
-fn of_text(alloc: Global, name: &str, out: &str, texted: &Texted) -> Result<Plan, Stop>
+fn of_text(alloc: Global, name: &str, out: &str, texted: &Texted) -> Result<Plan, Halt>
     ensures plan { IfPlan result (IsPlanOf (text_on name.now out.now (text_accepted texted.now))) }
     ensures told { IfPlan result (λ plan. plan.outcome ≢ Outcome.Usage) }
     ensures kept { IfPlan result (λ plan. (plan.outcome ≡ Outcome.Accepted) ⊎ (plan.saves.items ≡ [])) }
-    ensures no_fault { ¬ (IsErrOf result Stop.Failed) }
+    ensures no_fault { ¬ (IsErrOf result Halt.Failed) }
 {
     let list = read_list(alloc, name, &texted.text)?;
     written(alloc, name, out, &texted.judged, &list)
@@ -133,8 +133,8 @@ pub fn write<S: Store>(
     out: &str,
     deltas: &[String],
     store: &mut S,
-) -> Result<Plan, Stop>
-    ensures cause { HasCause Stop.Failed (S.faults store.old) (S.faults store.new) result }
+) -> Result<Plan, Halt>
+    ensures cause { HasCause Halt.Failed (S.faults store.old) (S.faults store.new) result }
     ensures stays { S.told store.new ≡ S.told store.old }
     ensures plan { IfSome (S.told store.old)
         (λ files. IfPlan result (IsPlanOf (write_on files base.now edits.now out.now (texts deltas.now)))) }

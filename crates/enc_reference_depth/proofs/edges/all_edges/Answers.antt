@@ -19,7 +19,7 @@ pub loop-n-preserved : goal.loop-n-preserved
 loop-n-preserved g c =
     let m = g.V.ModuleView.meaning c.args.view.now in
     told_spec m (row_count m 0x01) c.loop-n.n _ c.loop-n.edges.items _ c.in_ok-sig.sig c.loop-n.invariant
-    (omega (arith, c.count-refs.ensures.count)) c.in_ok-push_sig.ensures (spec_from m c.loop-n.n c.in_ok-sig.sig c.in_ok-sig.ensures.read)
+    (omega (arith, c.count-refs.ensures.count)) c.in_ok-push_signature_edges.ensures (spec_from m c.loop-n.n c.in_ok-sig.sig c.in_ok-sig.ensures.read)
 
 pub returns : goal.returns
 returns g c =

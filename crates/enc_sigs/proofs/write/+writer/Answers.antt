@@ -1,6 +1,6 @@
 use Rattle.std.proofs.Common.{◌∷◌, [], ◌%◌, ◌-◌, length, ap}
 use Rattle.std.specs.Prelude.{slice_get}
-use Rattle.enc_sigs.specs.declared.form.Numeral.TheVariants.{Size, Bound}
+use Rattle.enc_sigs.specs.declared.type_form.Numeral.TheVariants.{Size, Bound}
 use Rattle.enc_sigs.specs.Tree.{Tree, forest_of}
 use Rattle.enc_sigs.specs.Spelling.{number_bytes, token_bytes, front_of, numerals_of, generics_bytes, counted_bytes, parts_bytes, array_bytes, formed_bytes, spellings}
 use Rattle.enc_sigs.specs.Moved.{forest_moved}

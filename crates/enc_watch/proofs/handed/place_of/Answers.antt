@@ -8,12 +8,12 @@ use Rattle.enc_watch.proofs.handed.place_of.Goals as goal
 
 pub loop-i-init : goal.loop-i-init
 loop-i-init g c =
-    let seen : g.row.W.Denot → Watching = λ w. record { kind = g.W.Watcher.kind_of w; limit = g.W.Watcher.limit w; heard = g.W.Watcher.heard w } in
+    let seen : g.row.W.Denot → Watching = g.W.Watcher.watching in
     none_of_none (is_of_kind c.args.kind) (map seen c.args.watchers.now)
 
 pub returns-then-is_kind-clause-first : goal.returns-then-is_kind-clause-first
 returns-then-is_kind-clause-first g c =
-    let seen : g.row.W.Denot → Watching = λ w. record { kind = g.W.Watcher.kind_of w; limit = g.W.Watcher.limit w; heard = g.W.Watcher.heard w } in
+    let seen : g.row.W.Denot → Watching = g.W.Watcher.watching in
     let got = got_at c.args.watchers.now c.loop-i.i c.index-watchers-i.result c.loop-i-test.true c.index-watchers-i.is in
     let there = slice_get-map seen c.args.watchers.now c.loop-i.i ∙ ap (option_map seen) got in
     let has = ap (λ k. is_kind k c.args.kind) (sym c.kind.ensures.kind) ∙ sym c.is_kind.ensures ∙ c.if-is_kind.true in
@@ -21,7 +21,7 @@ returns-then-is_kind-clause-first g c =
 
 pub returns-then-is_kind-clause-rest : goal.returns-then-is_kind-clause-rest
 returns-then-is_kind-clause-rest g c =
-    let seen : g.row.W.Denot → Watching = λ w. record { kind = g.W.Watcher.kind_of w; limit = g.W.Watcher.limit w; heard = g.W.Watcher.heard w } in
+    let seen : g.row.W.Denot → Watching = g.W.Watcher.watching in
     let got = got_at c.args.watchers.now c.loop-i.i c.index-watchers-i.result c.loop-i-test.true c.index-watchers-i.is in
     let there = slice_get-map seen c.args.watchers.now c.loop-i.i ∙ ap (option_map seen) got in
     let has = ap (λ k. is_kind k c.args.kind) (sym c.kind.ensures.kind) ∙ sym c.is_kind.ensures ∙ c.if-is_kind.true in
@@ -29,7 +29,7 @@ returns-then-is_kind-clause-rest g c =
 
 pub loop-i-preserved : goal.loop-i-preserved
 loop-i-preserved g c =
-    let seen : g.row.W.Denot → Watching = λ w. record { kind = g.W.Watcher.kind_of w; limit = g.W.Watcher.limit w; heard = g.W.Watcher.heard w } in
+    let seen : g.row.W.Denot → Watching = g.W.Watcher.watching in
     let got = got_at c.args.watchers.now c.loop-i.i c.index-watchers-i.result c.loop-i-test.true c.index-watchers-i.is in
     let there = slice_get-map seen c.args.watchers.now c.loop-i.i ∙ ap (option_map seen) got in
     let hasnt = ap (λ k. is_kind k c.args.kind) (sym c.kind.ensures.kind) ∙ sym c.is_kind.ensures ∙ c.if-is_kind.false in
@@ -37,14 +37,14 @@ loop-i-preserved g c =
 
 pub returns-clause-none : goal.returns-clause-none
 returns-clause-none g c =
-    let seen : g.row.W.Denot → Watching = λ w. record { kind = g.W.Watcher.kind_of w; limit = g.W.Watcher.limit w; heard = g.W.Watcher.heard w } in
+    let seen : g.row.W.Denot → Watching = g.W.Watcher.watching in
     let n = length-map c.args.watchers.now seen in
     let long : length (map seen c.args.watchers.now) ≤ c.loop-i.i = omega (arith, n, c.loop-i-test.false) in
     first_past (is_of_kind c.args.kind) (map seen c.args.watchers.now) c.loop-i.i c.loop-i.invariant long
 
 pub returns-clause-all : goal.returns-clause-all
 returns-clause-all g c =
-    let seen : g.row.W.Denot → Watching = λ w. record { kind = g.W.Watcher.kind_of w; limit = g.W.Watcher.limit w; heard = g.W.Watcher.heard w } in
+    let seen : g.row.W.Denot → Watching = g.W.Watcher.watching in
     let n = length-map c.args.watchers.now seen in
     let long : length (map seen c.args.watchers.now) ≤ c.loop-i.i = omega (arith, n, c.loop-i-test.false) in
     others_past (is_of_kind c.args.kind) (map seen c.args.watchers.now) c.loop-i.i c.loop-i.invariant long

@@ -4,9 +4,4 @@ use Rattle.enc_watch.proofs.Taken.{TakesNone}
 use Rattle.enc_watch.proofs.handed.place_of.Given as goal
 
 abbrev pub invariant-loop-i : goal.invariant-loop-i
-invariant-loop-i g l = TakesNone (is_of_kind l.fn.kind) (map (λ w. record {
-  kind = g.W.Watcher.kind_of w;
-  limit = g.W.Watcher.limit w;
-  heard =
-      g.W.Watcher.heard w;
-}) l.fn.watchers) l.i
+invariant-loop-i g l = TakesNone (is_of_kind l.fn.kind) (map g.W.Watcher.watching l.fn.watchers) l.i

@@ -5,5 +5,5 @@ use Rattle.enc_c.proofs.held.Held.delta_count.Goals as goal
 
 pub returns : goal.returns
 returns c =
-    let same : length c.self.inside.agg.deltas ≡ length c.args.self.now.deltas = ap (λ (s : State). length s.deltas) c.self.view_is in
-    omega (arith, same, ids_count c.self.inside.agg.base c.self.inside.agg.deltas, c.generations.ensures.count)
+    let same : length c.self.inside.chain.rows.deltas ≡ length c.args.self.now.followed.deltas = ap (λ (s : State). length s.followed.deltas) c.self.view_is in
+    omega (arith, same, ids_count c.self.inside.chain.rows.base c.self.inside.chain.rows.deltas, rw c.rows.ensures at c.generations.ensures.count)

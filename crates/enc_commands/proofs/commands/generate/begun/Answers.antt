@@ -1,5 +1,5 @@
 use Rattle.std.proofs.Common.{◌≡◌, Err, sym, ap, map, subst, arith}
-use Rattle.enc_jobs.specs.Generated.{generated_base}
+use Rattle.enc_generator.specs.Generated.{generated_base}
 use Rattle.enc_commands.specs.Generating.{no_points}
 use Rattle.enc_commands.specs.Loads.{base_seen, file_seen, followed}
 use Rattle.enc_commands.specs.Series.{NothingSaid}
@@ -20,4 +20,3 @@ returns-clause-series c =
     (base_judged_as generated_base no_points c.args.out.now c.args.written.image c.args.written.pdb c.requires.image_is c.requires.pdb_is.means (base_seen c.in_ok-file.file) _ c.in_ok-file.ensures (ap (map file_seen) c.new.ensures.items))
     c.in_ok-held.ensures.step)
     (first_saves c.new-saves.result.items c.push_module.new.saves.items _ c.new-saves.ensures.items c.in_ok-push_module.ensures)
-    c.in_ok-held.ensures.within

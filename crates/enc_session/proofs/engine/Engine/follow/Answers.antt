@@ -18,14 +18,14 @@ invariant_of-self-2 c =
     record {
       parts = c.commit.ensures.parts;
       texts =
-          (c.text_law.ensures (users_of_all c.prepare.new.self.agg) (users_of_all c.commit.new.self.agg) c.self.inside.machine c.commit.ensures.texts kept.texts).1;
+          (c.text_law.ensures (users_of_all c.prepare.new.self.joined.rows) (users_of_all c.commit.new.self.joined.rows) c.self.inside.machine c.commit.ensures.texts kept.texts).1;
     }
 
 pub returns-clause-ok : goal.returns-clause-ok
 returns-clause-ok c =
     let kept = same_engine c.prepare.new.self c.self.inside.parts c.self.inside.machine c.prepare.ensures.same c.self.invariant in
     rw (← c.self.view_is)
-    (engine_follows c.commit.new.self c.prepare.new.self c.self.inside.parts c.self.inside.machine c.args.checked.delta c.in_ok-prepared.prepared.ready.delta
-    c.args.checked.pdb c.in_ok-prepared.prepared.pdb c.prepare.ensures.same c.commit.ensures.followed c.in_ok-prepared.ensures.ready.delta
+    (engine_follows c.commit.new.self c.prepare.new.self c.self.inside.parts c.self.inside.machine c.args.checked.delta c.in_ok-prepared.prepared.delta.rows.delta
+    c.args.checked.pdb c.in_ok-prepared.prepared.delta.pdb c.prepare.ensures.same c.commit.ensures.followed c.in_ok-prepared.ensures.ready.delta
     c.in_ok-prepared.ensures.ready.debug
-    (c.text_law.ensures (users_of_all c.prepare.new.self.agg) (users_of_all c.commit.new.self.agg) c.self.inside.machine c.commit.ensures.texts kept.texts).0)
+    (c.text_law.ensures (users_of_all c.prepare.new.self.joined.rows) (users_of_all c.commit.new.self.joined.rows) c.self.inside.machine c.commit.ensures.texts kept.texts).0)

@@ -5,14 +5,14 @@ use Rattle.enc_session.proofs.engine.Engine.frame.Goals as goal
 
 pub returns-in-None : goal.returns-in-None
 returns-in-None c =
-    let users = users_of_all c.self.inside.parts.agg in let m = c.self.inside.machine in
+    let users = users_of_all c.self.inside.parts.joined.rows in let m = c.self.inside.machine in
     rw (← c.self.view_is)
-    (sym (no_facts users m c.args.task c.args.i c.args.date (c.look_laws.ensures.frames users m c.args.task c.args.i) (sym c.frame.ensures ∙ c.in-None.is)))
+    (sym (no_facts users m c.args.task c.args.i c.args.generation (c.look_laws.ensures.frames users m c.args.task c.args.i) (sym c.frame.ensures ∙ c.in-None.is)))
 
 pub returns-in-Some : goal.returns-in-Some
 returns-in-Some c =
-    let users = users_of_all c.self.inside.parts.agg in let m = c.self.inside.machine in
+    let users = users_of_all c.self.inside.parts.joined.rows in let m = c.self.inside.machine in
     rw (← c.self.view_is)
     (ap Some c.facts_of.ensures
-    ∙ sym (facts_meant users m c.args.task c.args.i c.args.date c.in-Some.frame (c.look_laws.ensures.frames users m c.args.task c.args.i)
+    ∙ sym (facts_meant users m c.args.task c.args.i c.args.generation c.in-Some.frame (c.look_laws.ensures.frames users m c.args.task c.args.i)
     (sym c.frame.ensures ∙ c.in-Some.is)))

@@ -7,5 +7,5 @@ pub returns : goal.returns
 returns c =
     let p = c.self.inside.parts in
     rw (← c.self.view_is)
-    (plain_within (users_of_all p.agg) (module_of_all p.agg) (pdb_with p.debug.base p.debug.deltas) p.versions.methods c.write_units.result c.args.task c.self.inside.machine
-    c.meaning_laws.ensures.steps c.sound.ensures c.self.invariant.parts.bodies (c.write_units.ensures (users_of_all p.agg) p.versions.methods))
+    (plain_within (users_of_all p.joined.rows) (module_of_all p.joined.rows) (pdb_with p.joined.points.base p.joined.points.deltas) p.versions.methods c.write_units.result c.args.task c.self.inside.machine
+    c.meaning_laws.ensures.steps (rw c.rows.ensures at c.sound.ensures) c.self.invariant.parts.bodies (rw c.rows-2.ensures at (c.write_units.ensures (users_of_all p.joined.rows) p.versions.methods)))

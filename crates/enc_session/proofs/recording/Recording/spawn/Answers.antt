@@ -1,6 +1,6 @@
 use Rattle.std.proofs.Common.{◌≤◌, length, refl, arith}
 use Rattle.enc_session.proofs.Begun.{few_frames}
-use Rattle.enc_session.proofs.DatesKept.{spawn_dated}
+use Rattle.enc_session.proofs.GenerationsKept.{spawn_has_generations}
 use Rattle.enc_session.proofs.Recorded.{begun_few, have_room, more_few, no_task_recorded, spawn_is_recorded}
 use Rattle.enc_session.specs.RecordingSeen.{generation_at}
 use Rattle.enc_session.specs.Session.{world_of}
@@ -43,10 +43,10 @@ invariant_of-self-2 c =
       have_room c.self.inside.limit c.push_events.new.all c.self.inside.events c.as_slice.result.now c.push_events.ensures.events
           c.push_events.ensures.capacity c.self.invariant.0 (omega (arith, few, asked)),
       rw c.in_ok-end.ensures.followed c.self.invariant.1,
-      spawn_dated (world_of c.self.inside.engine.followed) c.args.method (generation_at c.self.inside.newest) c.self.inside.engine.machine
-          c.spawn.new.self.machine c.in-Task.task c.self.inside.dates.items c.push_reserved.new.self.items
+      spawn_has_generations (world_of c.self.inside.engine.followed) c.args.method (generation_at c.self.inside.newest) c.self.inside.engine.machine
+          c.spawn.new.self.machine c.in-Task.task c.self.inside.generations.items c.push_reserved.new.self.items
           (rw c.in-Task.is at c.in_ok-end.ensures.spawned)
-          (rw (c.reserve.ensures.items, c.settle.ensures, c.in_ok-dates.ensures) at c.push_reserved.ensures.items) c.self.invariant.2,
+          (rw (c.reserve.ensures.items, c.settle.ensures, c.in_ok-generations.ensures) at c.push_reserved.ensures.items) c.self.invariant.2,
     )
 
 pub returns-clause-recorded : goal.returns-clause-recorded
@@ -54,7 +54,7 @@ returns-clause-recorded c =
     rw (← c.self.view_is)
     (spawn_is_recorded c.args.method c.in-Task.task _ _ (generation_at c.self.inside.newest) (rw c.in-Task.is at c.in_ok-end.ensures.spawned) c.self.invariant.1
     c.in_ok-end.ensures.followed (rw (c.as_slice.ensures, c.begun_events-events.ensures) at c.push_events.ensures.events) refl
-    (rw (c.reserve.ensures.items, c.settle.ensures, c.in_ok-dates.ensures) at c.push_reserved.ensures.items) refl)
+    (rw (c.reserve.ensures.items, c.settle.ensures, c.in_ok-generations.ensures) at c.push_reserved.ensures.items) refl)
 
 pub returns-clause-few : goal.returns-clause-few
 returns-clause-few c =

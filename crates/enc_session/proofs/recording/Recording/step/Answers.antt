@@ -1,5 +1,5 @@
 use Rattle.std.proofs.Common.{◌≤◌, length, arith, refl, sym, ◌∙◌}
-use Rattle.enc_session.proofs.Recorded.{have_room, made_dated, no_step_recorded, step_few, step_is_recorded}
+use Rattle.enc_session.proofs.Recorded.{have_room, made_has_generations, no_step_recorded, step_few, step_is_recorded}
 use Rattle.enc_vm.specs.Turns.{shown_in}
 use Rattle.enc_session.specs.Seen.{ending_told}
 use Rattle.enc_session.specs.RecordingSeen.{generation_at}
@@ -28,7 +28,7 @@ invariant_of-self-2 c =
       have_room c.self.inside.limit c.push_events.new.all c.self.inside.events c.as_slice.result.now c.push_events.ensures.events
           c.push_events.ensures.capacity c.self.invariant.0 (omega (arith, few, asked)),
       rw c.in_ok-end.ensures.followed c.self.invariant.1,
-      made_dated c.args.task c.in_ok-end.end c.step.new.seen c.self.inside.engine.followed c.self.inside.engine.machine c.step.new.self.machine
-          (generation_at c.self.inside.newest) c.self.inside.dates.items c.settle.new.dates.items (sym c.is_made.ensures ∙ c.if-not-is_made.false)
+      made_has_generations c.args.task c.in_ok-end.end c.step.new.seen c.self.inside.engine.followed c.self.inside.engine.machine c.step.new.self.machine
+          (generation_at c.self.inside.newest) c.self.inside.generations.items c.settle.new.generations.items (sym c.is_made.ensures ∙ c.if-not-is_made.false)
           c.in_ok-end.ensures.turn c.settle.ensures c.self.invariant.2,
     )

@@ -6,7 +6,7 @@ use Rattle.enc_watch.proofs.handed.Handed.take.Goals as goal
 
 pub returns-in-Some-clause-left : goal.returns-in-Some-clause-left
 returns-in-Some-clause-left g c =
-    let seen : g.row.W.Denot → Watching = λ w. record { kind = g.W.Watcher.kind_of w; limit = g.W.Watcher.limit w; heard = g.W.Watcher.heard w } in
+    let seen : g.row.W.Denot → Watching = g.W.Watcher.watching in
     ap (map seen) c.remove.ensures.items
     ∙ map_removed seen c.self.inside.watchers.items c.in-Some.i
     ∙ ap (λ ws. remove (map seen ws) c.in-Some.i) (sym c.deref.ensures.value)

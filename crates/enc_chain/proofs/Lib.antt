@@ -1,0 +1,2 @@
+pub mod AcceptedGoes
+pub mod Chains

@@ -1,8 +1,0 @@
--- For the contracts of private functions: a turn by what it does.
-use Rattle.enc_jobs.specs.Generated.{Turn, adds, replaces}
-use Rattle.enc_jobs.specs.declared.generate.draw.Act.{Act}
-use Rattle.enc_jobs.specs.declared.generate.draw.Act.TheVariants as act
-
-abbrev pub turn_of : Act → Turn
-turn_of (act.Adds n) = adds n
-turn_of (act.Replaces row n) = replaces row n

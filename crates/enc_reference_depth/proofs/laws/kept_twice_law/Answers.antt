@@ -1,5 +1,0 @@
-use Rattle.enc_reference_depth.proofs.Twice.{kept_twice}
-use Rattle.enc_reference_depth.proofs.laws.kept_twice_law.Goals as goal
-
-pub returns : goal.returns
-returns c = kept_twice
