@@ -168,6 +168,7 @@ CALLS: Dict[str, Tuple[Any, ...]] = {
     "enc_document": (_handle, u32, u32, *_copied),
     "enc_document_at": (_handle, u32, u32, u32, *_copied),
     "enc_may_remap": (_handle, u32, u32, u32, ctypes.c_void_p, size_t, _count),
+    "enc_version": (),
     "enc_words": (_refusal, *_copied),
     "enc_save": (_handle, *_copied, *_copied, _refusal),
     "enc_compact": (_handle, *_copied, *_copied, *_copied, _refusal),
