@@ -592,6 +592,16 @@ namespace Enc
 
         EncModule() : base(new Keeper(Native.Close)) { }
 
+        /// <summary>The release of the native library that is loaded, such as 0.9.0.</summary>
+        public static Version LibraryVersion
+        {
+            get
+            {
+                uint release = Native.Release();
+                return new Version((int)(release >> 16), (int)(release >> 8 & 0xff), (int)(release & 0xff));
+            }
+        }
+
         /// <summary>Judges a base, with its Portable PDB where that has bytes, and opens it.</summary>
         /// <exception cref="EncRefusedException">It breaks a rule.</exception>
         public static EncModule Open(byte[] image, byte[] pdb = null)
@@ -1679,6 +1689,9 @@ namespace Enc
                 };
             }
         }
+
+        [DllImport(Name, EntryPoint = "enc_version")]
+        internal static extern uint Release();
 
         [DllImport(Name, EntryPoint = "enc_words")]
         internal static extern uint Words(ref Refusal refusal, [Out] byte[] buffer, UIntPtr length,

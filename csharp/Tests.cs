@@ -265,6 +265,7 @@ sealed class Calls
             .SelectMany(call => call.GetCustomAttributes(typeof(DllImportAttribute), false))
             .Select(import => ((DllImportAttribute)import).EntryPoint);
         Is("calls that Enc.cs lacks", string.Join(" ", declared.Except(known)), "");
+        Where("enc_version", () => Is("a release before 1.0", EncModule.LibraryVersion.Major, 0));
     }
 
     EncDelta Delta(string name)
