@@ -224,7 +224,7 @@ sealed class Calls
     public Calls(string folder, string header)
     {
         this.folder = folder + "/";
-        MatchCollection calls = Regex.Matches(File.ReadAllText(header), @"(?m)^uint32_t (\w+)\(");
+        MatchCollection calls = Regex.Matches(File.ReadAllText(header), @"(?m)^(?:enc_status|uint32_t) (\w+)\(");
         declared = new HashSet<string>(calls.Cast<Match>().Select(call => call.Groups[1].Value));
     }
 
