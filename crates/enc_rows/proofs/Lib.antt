@@ -1,4 +1,5 @@
 pub mod Below
+pub mod NineColumns
 pub mod Listed
 pub mod Places
 pub mod Runs

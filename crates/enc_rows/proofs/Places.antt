@@ -4,12 +4,12 @@ use Rattle.std.proofs.Common.{inl, inr}
 use Rattle.std.proofs.lemmas.Bool.{cases_lt}
 use Rattle.std.proofs.Math.Nat.{mul-le-mul_right, add-mul}
 use Rattle.std.proofs.lemmas.List.{get_or_past}
-use Rattle.std.specs.Prelude.{Option, Some, None, IsTrue, IfSome}
+use Rattle.std.specs.Prelude.{Option, Some, None, IsTrue, IsSome, IfSome}
 use Rattle.std.proofs.lemmas.Bool.Decides.{nat_tests}
 use Rattle.enc_base.specs.declared.token.Token.{Token}
 use Rattle.enc_schema.specs.declared.column.Column.{Column}
 use Rattle.enc_schema.specs.Schema.{column_in}
-use Rattle.enc_schema.specs.Widths.{width_of, space_of, row_width, column_start}
+use Rattle.enc_schema.specs.Widths.{Shape, width_of, space_of, row_width, column_start}
 use Rattle.enc_rows.specs.Sums.{sum_below}
 use Rattle.enc_rows.specs.Layout.{Layout, rows_of, stream_has_row, number_of_width, raw_cell, table_bytes, table_start, cell_place, IsLaidOut}
 use Rattle.enc_rows.proofs.Below.{sum_part, sum_more}
@@ -70,3 +70,13 @@ pub raw_is : (stream : List ℕ) (l : Layout) (token : Token) (i w at n : ℕ) (
 unfolding raw_cell
 raw_is stream l token i w at n c column there width place read =
     rw (column, there, ← width, ← place) read
+
+-- the same, of any column that is there
+pub raw_there : (stream : List ℕ) (l : Layout) (token : Token) (i w at n : ℕ) (o : Option Column) → column_in token.table i ≡ o → IsSome o → IsTrue (stream_has_row l token) → IfSome o (λ c. w ≡ width_of l.shape c) → at ≡ cell_place l token i → number_of_width w stream at ≡ Some n → raw_cell stream l token i ≡ Some n
+raw_there stream l token i w at n None is some there width place read = absurd cc
+raw_there stream l token i w at n (Some c) is some there width place read = raw_is stream l token i w at n c is there width place read
+
+-- and its number ends before the end of all tables
+pub raw_room : (s : Shape) (o : Option Column) (w at end : ℕ) → IsSome o → IfSome o (λ c. at + space_of s c ≤ end) → IfSome o (λ c. w ≤ space_of s c) → at + w ≤ end
+raw_room s None w at end some within fits = absurd cc
+raw_room s (Some c) w at end some within fits = omega (arith, within, fits)

@@ -1,4 +1,5 @@
 pub mod Sums
+pub mod Columns
 pub mod Layout
 pub mod Source
 pub mod Runs

@@ -3,6 +3,7 @@
 
 mod builder;
 mod children;
+mod columns;
 mod faults;
 mod form;
 mod header;

@@ -5,11 +5,12 @@ ghost use Rattle.enc_schema.specs.Schema.{column_in};
 ghost use Rattle.enc_schema.specs.Widths.{width_of, space_of, row_width};
 ghost use Rattle.enc_rows.specs.Layout.{Layout, layout_of, whole_layout, stream_tables, laid_out, rows_of, stream_has_row, raw_cell, table_bytes, table_start, cell_place, number_of_width, IsWithin};
 
+use crate::columns::Columns;
 use crate::form::Form;
 use crate::header::{counts_of, first_row, fits, width_counts_of};
 use enc_base::{Code, Counts, Place, Refusal, Steps, Token, u16_at, u32_at, u64_at};
 use enc_meta::Span;
-use enc_schema::{Column, Widths, column_of, widths_of};
+use enc_schema::{Widths, widths_of};
 use std::marker::{Brand, Model};
 use std::sync::ledger::{Blank, Ledger};
 
@@ -26,7 +27,7 @@ struct Starts {
 pub struct Tables {
     span: Span,
     counts: Counts,
-    widths: Widths,
+    columns: Columns,
     first: usize,
     starts: [usize; 64],
 }
@@ -36,10 +37,10 @@ impl Model for Tables {
 
     ghost Value = { Layout };
 
-    ghost view = { λ t. record { span = t.span; counts = t.counts.rows; shape = t.widths; first = t.first } };
+    ghost view = { λ t. record { span = t.span; counts = t.counts.rows; shape = t.columns; first = t.first } };
 
     ghost invariant = { λ t. IsLaidOut
-        (record { span = t.span; counts = t.counts.rows; shape = t.widths; first = t.first }) t.starts };
+        (record { span = t.span; counts = t.counts.rows; shape = t.columns; first = t.first }) t.starts };
 }
 
 /// The bytes of all rows of a table.
@@ -116,14 +117,15 @@ impl Tables {
     /// Where a cell stands in the stream.
     fn place(&self, token: Token, column: u8) -> usize
         requires row { IsTrue (stream_has_row self.now token) }
+        requires column { IsSome (column_in token.table column) }
         requires near { table_start self.now 64 < 2 ^ 63 }
         ensures place { result ≡ cell_place self.now token column }
         ensures within { IfSome (column_in token.table column)
             (λ c. result + space_of self.now.shape c ≤ table_start self.now 64) }
     {
         self.starts[token.table as usize]
-            + (token.row as usize - 1) * self.widths.row(token.table) as usize
-            + self.widths.start(token.table, column) as usize
+            + (token.row as usize - 1) * self.columns.row(token.table) as usize
+            + self.columns.start(token.table, column) as usize
     }
 
     /// The number that stands in a cell: a number, an offset in a heap, or an index as it is
@@ -142,10 +144,7 @@ impl Tables {
         ensures steps { steps.new ≡ steps.old + 1 }
     {
         steps.tick();
-        let Some(kind) = column_of(token.table, column) else {
-            unreachable!()
-        };
-        let width = self.widths.width(kind);
+        let width = self.columns.width(token.table, column);
         number_of(self.span.part(bytes), self.place(token, column), width)
     }
 }
@@ -230,7 +229,7 @@ fn whole(
     Some(Tables {
         span,
         counts,
-        widths,
+        columns: Columns::of(widths),
         first,
         starts,
     })
