@@ -14,6 +14,7 @@ use std::alloc::Global;
 
 impl Frame {
     /// It goes on at an offset.
+    #[inline(always)]
     fn go_on(&mut self, next: u32) -> Result<(), Stop>
         ensures { Does result self.new self.old (Ok (moved_on next self.old.stack self.old)) }
     {
@@ -26,6 +27,7 @@ impl Frame {
     enc_opcodes::specs::Body::body_of // what a body's parts mean
     ))]
     /// What an instruction does to its frame alone; behind it the frame goes on at an offset.
+    #[inline(always)]
     pub fn act<V: ModuleView>(
         &mut self,
         alloc: Global,

@@ -23,6 +23,7 @@ use std::alloc::Global;
 
 impl Thread {
     /// What an instruction does to its frame alone.
+    #[inline(always)]
     pub(crate) fn act_on_frame<V: ModuleView>(
         &mut self,
         alloc: Global,
@@ -116,6 +117,7 @@ impl Thread {
 
 impl Thread {
     /// An instruction on two values.
+    #[inline(always)]
     pub(crate) fn on_two(&mut self, op: Op, next: u32) -> Result<Effect, Stop>
         ensures { (s : Shared) → Performs result s s self.new self.old
             (framed s self.old (on_upper_two op next self.old.top)) }
@@ -127,6 +129,7 @@ impl Thread {
     }
 
     /// An instruction on one value.
+    #[inline(always)]
     pub(crate) fn on_one(&mut self, op: Op, next: u32) -> Result<Effect, Stop>
         ensures { (s : Shared) → Performs result s s self.new self.old
             (framed s self.old (on_top op next self.old.top)) }

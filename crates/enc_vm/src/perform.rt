@@ -27,6 +27,7 @@ use enc_plain::ModuleView;
 
 impl Thread {
     /// What an instruction does that is for something; behind it the frame goes on at an offset.
+    #[inline(always)]
     #[tactic(auto, unfolding(crate::specs::Step::act_on))]
     fn act<V: ModuleView>(
         &mut self,
@@ -53,6 +54,7 @@ impl Thread {
     }
 
     /// What an instruction does. X2 where it is for nothing.
+    #[inline(always)]
     fn act_if_any<V: ModuleView>(
         &mut self,
         world: &World<'_, V>,
@@ -72,6 +74,7 @@ impl Thread {
 
 impl Thread {
     /// An instruction that stands alone.
+    #[inline(always)]
     fn perform_bare<V: ModuleView>(
         &mut self,
         world: &World<'_, V>,
@@ -126,6 +129,7 @@ impl Thread {
     }
 
     /// An instruction, whose end is where the next one begins.
+    #[inline(always)]
     #[tactic(auto, unfolding(crate::specs::Step::perform))]
     pub(crate) fn perform<V: ModuleView>(
         &mut self,
