@@ -20,3 +20,15 @@ each_more is xs x n each size new k p e = elim (at_end xs x p k e) [
   | inl there ↦ each k p there
   | inr last ↦ subst (is k) last.1 (subst (λ j. is j x) (sym size ∙ sym last.0) new)
 ]
+
+-- the answers of a rule for the first eight numbers
+pub each_of_eight : {A : Type 0} (f : ℕ → A) → EachPart (λ (k : ℕ) (x : A). x ≡ f k) (f 0 ∷ f 1 ∷ f 2 ∷ f 3 ∷ f 4 ∷ f 5 ∷ f 6 ∷ f 7 ∷ [])
+each_of_eight f 0 p e = cc
+each_of_eight f 1 p e = cc
+each_of_eight f 2 p e = cc
+each_of_eight f 3 p e = cc
+each_of_eight f 4 p e = cc
+each_of_eight f 5 p e = cc
+each_of_eight f 6 p e = cc
+each_of_eight f 7 p e = cc
+each_of_eight f (suc (suc (suc (suc (suc (suc (suc (suc k)))))))) p e = absurd cc
