@@ -1,5 +1,5 @@
 -- What the index keeps of rows is what the module says of them.
-use Rattle.std.proofs.Common.{◌≡◌, ℕ, zero, suc, ◌+◌, ◌<◌, ◌≤◌, Bool, true, false, List, length, Option, Some, None, IsTrue, slice_get, refl, sym, ap, subst, ◌∙◌, arith}
+use Rattle.std.proofs.Common.{◌≡◌, ℕ, zero, suc, ◌+◌, ◌<◌, ◌≤◌, Bool, true, false, List, [], ◌∷◌, length, Option, Some, None, IsTrue, slice_get, refl, sym, ap, subst, ◌∙◌, arith}
 use Rattle.std.specs.Prelude.{option_and_then, if◌then◌else◌, ◌==◌}
 use Rattle.std.proofs.lemmas.Bool.{eqb-true}
 use Rattle.enc_base.specs.Token.{nth_row}
@@ -42,9 +42,9 @@ part_of_row m d (suc i) p stands e = subst (λ row. owner_of m (method_at row) �
 pub owner_is : (m : Module) (d : DispatchParts) (t : Token) (p : MethodPart) → StandsForModule d m → t.table ≡ tables.method_def → nth_part d.methods t.row ≡ Some p → owner_of m t ≡ Some p.owner
 owner_is m d t p stands at e = subst (λ table. owner_of m (record { table = table; row = t.row }) ≡ Some p.owner) (sym at) (part_of_row m d t.row p stands e)
 
-there : {A : Type 0} (parts : List A) (row : ℕ) → 1 ≤ row → row ≤ length parts → nth_part parts row ≡ None → ⊥
-there parts zero low high e = absurd (omega (arith, low))
-there parts (suc i) low high e = within parts i (omega (arith, high)) e
+part_there : {A : Type 0} (parts : List A) (row : ℕ) → 1 ≤ row → row ≤ length parts → nth_part parts row ≡ None → ⊥
+part_there parts zero low high e = absurd (omega (arith, low))
+part_there parts (suc i) low high e = within parts i (omega (arith, high)) e
   where
     within : {A : Type 0} (xs : List A) (k : ℕ) → k < length xs → slice_get xs k ≡ None → ⊥
     within [] k low e = absurd (omega (arith, low))
@@ -54,4 +54,4 @@ there parts (suc i) low high e = within parts i (omega (arith, high)) e
 pub owner_there : (m : Module) (d : DispatchParts) (t : Token) → StandsForModule d m → t.table ≡ tables.method_def → IsTrue (has_row m t) → nth_part d.methods t.row ≡ None → ⊥
 owner_there m d t stands at has e =
     let b = row_bounds m t.row (subst (λ table. has_row m (record { table = table; row = t.row }) ≡ true) at has) in
-    there d.methods t.row b.0 (omega (arith, b.1, stands.method_count)) e
+    part_there d.methods t.row b.0 (omega (arith, b.1, stands.method_count)) e

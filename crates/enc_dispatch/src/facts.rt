@@ -32,7 +32,6 @@ impl Dispatch {
     /// The kind of a local variable, by its number from 0 and the signature that its body names, None where it has
     /// none (ECMA-335 II.25.4.4, II.23.2.6). Those of the first eight are kept: no signature is read for them.
     #[inline(always)]
-    #[tactic(auto, using(crate::proofs::KeptFacts::kept_is))]
     pub fn local_kind<V: ModuleView>(&self, view: &V, locals: Token, n: u32) -> Option<Kind>
         requires stands { StandsForModule self.now (V.meaning view.now) }
         ensures { result ≡ kind_of_local (V.meaning view.now) locals n }
@@ -52,7 +51,6 @@ impl Dispatch {
 
     /// The type that declares a method (ECMA-335 II.22.37). It is kept.
     #[inline(always)]
-    #[tactic(auto, using(crate::proofs::KeptFacts::owner_is, crate::proofs::KeptFacts::owner_there))]
     pub fn owner<V: ModuleView>(&self, _view: &V, method: Token) -> Token
         requires stands { StandsForModule self.now (V.meaning _view.now) }
         requires row { IsTrue (has_row (V.meaning _view.now) method) }

@@ -25,7 +25,6 @@ fn nth_kind(kinds: &Option<Kinds<'_>>, n: u32) -> Option<Kind>
 }
 
 /// The part of the n-th signature, from 0 (ECMA-335 II.22.36).
-#[tactic(auto, using(crate::proofs::Each::each_of_eight))]
 fn locals_part<V: ModuleView>(view: &V, n: u32) -> LocalsPart
     requires { n < 2 ^ 24 }
     ensures { IsLocalsPart (V.meaning view.now) n result }
@@ -50,7 +49,7 @@ fn locals_part<V: ModuleView>(view: &V, n: u32) -> LocalsPart
 }
 
 /// The parts of all signatures behind the first so many. It takes memory for each.
-#[tactic(auto, using(crate::proofs::Each::each_none, crate::proofs::Each::each_more))]
+#[tactic(auto, using(crate::proofs::Each::each_none))]
 pub(crate) fn locals_of<V: ModuleView>(
     alloc: Global,
     view: &V,
