@@ -40,7 +40,7 @@ impl Thread {
             (act_on (world_in V.users V.meaning world.now) next act (shared_in shared.old) self.old) }
     {
         match act {
-            Act::Frame(act) => self.act_on_frame(world.alloc, world.view, next, act),
+            Act::Frame(act) => self.act_on_frame(world, next, act),
             Act::Object(act) => self.act_on_objects(world, &mut shared.objects, next, act),
             Act::Return => self.return_one(world.view),
             Act::Call(method) => self.call_any(world, shared, next, method),
