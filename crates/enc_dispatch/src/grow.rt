@@ -58,24 +58,9 @@ impl Dispatch {
             first: &self.methods,
             more: &methods,
         };
-        let own = own_of(
-            alloc,
-            view,
-            &parts,
-            Wanted::Virtual,
-            &owners,
-            read.methods,
-            &self.own,
-        )?;
-        let met = own_of(
-            alloc,
-            view,
-            &parts,
-            Wanted::Public,
-            &owners,
-            read.methods,
-            &self.met,
-        )?;
+        let n = read.methods;
+        let own = own_of(alloc, view, &parts, Wanted::Virtual, &owners, n, &self.own)?;
+        let met = own_of(alloc, view, &parts, Wanted::Public, &owners, n, &self.met)?;
         Ok(Growth {
             classes,
             methods,
