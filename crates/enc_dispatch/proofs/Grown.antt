@@ -14,7 +14,7 @@ use Rattle.enc_dispatch.specs.Index.{StandsForModule}
 use Rattle.enc_dispatch.specs.Own.{own_among, AreAllOwn}
 use Rattle.enc_dispatch.specs.Parts.{EachPart, nth_part}
 use Rattle.enc_dispatch.specs.Interfaces.{says_interface}
-use Rattle.enc_dispatch.specs.Stored.{DispatchParts, Room, with_room, class_at, own_key, impl_key, interface_key, impl_for, IsClassPart, IsMethodPart}
+use Rattle.enc_dispatch.specs.Stored.{DispatchParts, Room, with_room, class_at, own_key, impl_key, interface_key, impl_for, IsClassPart, IsMethodPart, IsLocalsPart}
 use Rattle.enc_dispatch.proofs.Bodies.{bodies_there}
 use Rattle.enc_dispatch.proofs.Found.{heads_same}
 use Rattle.enc_dispatch.proofs.Later.{each_append}
@@ -67,11 +67,13 @@ grown d g new m read sound stands comes has =
       links = ap length has.links ∙ joined_size d.links g.links.items read.methods (row_count m 0x06) stands.links comes.links;
       buckets = subst (AreBuckets (cells_of m) (stored_head new.heads)) (sym has.links)
           (heads_same (cells_of m) (λ key. either (latest g.heads.items (bucket_key key)) (stored_head d.heads key)) (stored_head new.heads) (d.links ++ g.links.items) (λ key. has.heads (bucket_key key)) comes.buckets);
+      locals_count = ap length has.locals ∙ joined_size d.locals g.locals.items read.locals (row_count m 0x11) stands.locals_count comes.locals_count;
+      locals = subst (EachPart (IsLocalsPart m)) (sym has.locals) (each_append (IsLocalsPart m) d.locals g.locals.items read.locals stands.locals_count stands.locals comes.locals);
     }
 
 -- what is there is the same with more room
 pub grown_with_room : (d : DispatchParts) (g : Growth) (room : Room) (new : DispatchParts) → HasGrown (with_room room d) g new → HasGrown d g new
-grown_with_room d g room new has = record { classes = has.classes; methods = has.methods; own = has.own; met = has.met; impls = has.impls; interfaces = has.interfaces; heads = has.heads; links = has.links }
+grown_with_room d g room new has = record { classes = has.classes; methods = has.methods; own = has.own; met = has.met; impls = has.impls; interfaces = has.interfaces; heads = has.heads; links = has.links; locals = has.locals }
 
 pub stands_with_room : (d : DispatchParts) (m : Module) (read : RowsRead) (room : Room) → StandsUpTo d m read → StandsUpTo (with_room room d) m read
 stands_with_room d m read room s = record {
@@ -85,6 +87,8 @@ stands_with_room d m read room s = record {
   interfaces = s.interfaces;
   links = s.links;
   buckets = s.buckets;
+  locals_count = s.locals_count;
+  locals = s.locals;
 }
 
 pub comes_with_room : (d : DispatchParts) (g : Growth) (m : Module) (read : RowsRead) (room : Room) → IsGrowth d g m read → IsGrowth (with_room room d) g m read
@@ -101,6 +105,8 @@ comes_with_room d g m read room c = record {
   interfaces = c.interfaces;
   links = c.links;
   buckets = c.buckets;
+  locals_count = c.locals_count;
+  locals = c.locals;
 }
 
 pub few_classes : (d : DispatchParts) (g : Growth) (m : Module) (read : RowsRead) → StandsUpTo d m read → IsGrowth d g m read → length d.classes + length g.classes.items < 2 ^ 24

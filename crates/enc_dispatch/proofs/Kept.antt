@@ -35,6 +35,7 @@ pub record IsKept (m n : Module) : Type 0 where
   pub refs : RefsStay m n
   pub impls : (u : Token) → has_row m u ≡ true → u.table ≡ 0x19 → cells_of n u ≡ cells_of m u
   pub interfaces : (u : Token) → has_row m u ≡ true → u.table ≡ 0x09 → cells_of n u ≡ cells_of m u
+  pub locals : (u : Token) → has_row m u ≡ true → u.table ≡ 0x11 → cells_of n u ≡ cells_of m u
   pub classes : (u : Token) → has_row m u ≡ true → u.table ≡ 0x02 → ClassStays m n u
   pub methods : (u : Token) → has_row m u ≡ true → u.table ≡ 0x06 → MethodStays m n u
 
@@ -121,7 +122,8 @@ read_stays m n listed u changed all there read = by_listed (is_listed listed u) 
         absurd (not_kept m n u (u.table == 0x06) (u.table == 0x02) (is_read u.table) refl refl refl (λ x. not_at u.table 0x06 is_read x read refl) (λ y. not_at u.table 0x02 is_read y read refl) read (row_keeps m n listed u all there e))
 
 reference_read : (t : ℕ) → is_read_by_likeness t ≡ true → is_read t ≡ true
-reference_read t h = or_left (is_read_by_likeness t || t == 0x19) (t == 0x09) (or_left (is_read_by_likeness t) (t == 0x19) h)
+reference_read t h =
+    or_left (is_read_by_likeness t || t == 0x19 || t == 0x09) (t == 0x11) (or_left (is_read_by_likeness t || t == 0x19) (t == 0x09) (or_left (is_read_by_likeness t) (t == 0x19) h))
 
 pub kept : (m n : Module) (listed : List Token) → IsChangedBy m n listed → list_all (keeps m n) listed ≡ true → IsKept m n
 kept m n listed changed all = record {
@@ -129,6 +131,7 @@ kept m n listed changed all = record {
   refs = λ u there is. read_stays m n listed u changed all there (reference_read u.table is);
   impls = λ u there e. read_stays m n listed u changed all there (ap is_read e);
   interfaces = λ u there e. read_stays m n listed u changed all there (ap is_read e);
+  locals = λ u there e. read_stays m n listed u changed all there (ap is_read e);
   classes = λ u there e. class_by u there e (is_listed listed u) refl;
   methods = λ u there e. method_by u there e (is_listed listed u) refl;
 }

@@ -22,3 +22,4 @@ pub mod Later
 pub mod UpTo
 pub mod Grown
 pub mod OwnerClasses
+pub mod KeptFacts

@@ -1,12 +1,14 @@
 -- What the index says of the rows that were there, it says of them in a module that keeps what is read of them.
 use Rattle.std.proofs.Common.{◌≡◌, ℕ, zero, suc, ◌+◌, ◌<◌, ◌≤◌, Bool, true, false, List, [], ◌∷◌, length, filter, Option, Some, None, option_map, slice_get, refl, sym, ap, ◌∙◌, arith}
-use Rattle.std.specs.Prelude.{◌&&◌, nat_lt, nat_le, if◌then◌else◌}
+use Rattle.std.specs.Prelude.{◌&&◌, nat_lt, nat_le, option_and_then, if◌then◌else◌}
 use Rattle.std.proofs.lemmas.Bool.Decides.{nat_tests}
 use Rattle.enc_base.specs.Numbers.{has_flag}
 use Rattle.enc_base.specs.Order.{first_below}
 use Rattle.enc_base.specs.Token.{nth_row}
 use Rattle.enc_base.specs.declared.token.Token.{Token}
 use Rattle.enc_base.proofs.First.{first_none, first_suc}
+use Rattle.enc_machine_types.specs.Members.{local_kinds}
+use Rattle.enc_objects.specs.declared.kind.Kind.{Kind}
 use Rattle.enc_plain.specs.Alike.{signatures_alike}
 use Rattle.enc_plain.specs.Module.{Module, has_row, cells_of}
 use Rattle.enc_plain.specs.Rows.{number_at, bytes_at}
@@ -16,6 +18,7 @@ use Rattle.enc_base.specs.Tables as tables
 use Rattle.enc_dispatch.specs.declared.class_part.ClassPart.{ClassPart}
 use Rattle.enc_dispatch.specs.declared.method_part.MethodPart.{MethodPart}
 use Rattle.enc_dispatch.specs.declared.own_method.OwnMethod.{OwnMethod}
+use Rattle.enc_dispatch.specs.declared.locals_part.LocalsPart.{LocalsPart}
 use Rattle.enc_dispatch.specs.declared.wanted.Wanted.{Wanted}
 use Rattle.enc_dispatch.specs.declared.wanted.Wanted.TheVariants.{Virtual, Public}
 use Rattle.enc_dispatch.specs.Buckets.{slot_key, is_slot, is_first_of, newest_first, AreBuckets}
@@ -25,12 +28,12 @@ use Rattle.enc_dispatch.specs.Parts.{EachPart}
 use Rattle.enc_plain.specs.ClassPath.{class_base}
 use Rattle.enc_dispatch.specs.Interfaces.{says_interface}
 use Rattle.enc_dispatch.specs.Slots.{shares_slot, shares_at, slot_in}
-use Rattle.enc_dispatch.specs.Stored.{impl_for, IsClassPart, IsMethodPart}
+use Rattle.enc_dispatch.specs.Stored.{impl_for, kind_of_local, IsClassPart, IsMethodPart, IsLocalsPart}
 use Rattle.enc_dispatch.specs.Walked.{slot_at}
 use Rattle.enc_dispatch.specs.Walks.{method_at, is_virtual}
 use Rattle.enc_dispatch.proofs.Equivalence.{methods_equivalence, related_as}
 use Rattle.enc_dispatch.proofs.Kept.{IsKept, AllThere, owner_kept}
-use Rattle.enc_dispatch.proofs.References.{method_sound, signatures_same, signature_key_same, token_by}
+use Rattle.enc_dispatch.proofs.References.{method_sound, signatures_same, signature_key_same, token_by, bytes_by}
 use Rattle.enc_dispatch.proofs.Sharing.{nth, one_kind}
 
 -- the n-th row is there below the count
@@ -145,6 +148,17 @@ says_same m n class i k kept low =
 
 pub interfaces_same : (m n : Module) (class i : Token) → IsKept m n → first_below (says_interface n class i) (row_count m tables.interface_impl) ≡ first_below (says_interface m class i) (row_count m tables.interface_impl)
 interfaces_same m n class i kept = first_same (says_interface n class i) (says_interface m class i) (row_count m tables.interface_impl) (λ k low. says_same m n class i k kept low)
+
+-- the kinds of local variables
+local_kinds_same : (m n : Module) (u : Token) → cells_of n u ≡ cells_of m u → local_kinds n u ≡ local_kinds m u
+unfolding local_kinds
+local_kinds_same m n u same = rw (bytes_by (cells_of n) (cells_of m) u 0 same) refl
+
+pub locals_same : (m n : Module) (locals : List LocalsPart) → IsKept m n → length locals ≡ row_count m tables.stand_alone_sig → EachPart (IsLocalsPart m) locals → EachPart (IsLocalsPart n) locals
+locals_same m n locals kept size each k p e i o there =
+    let low : k < row_count m 0x11 = omega (arith, part_low locals k p e, size) in
+    let same = local_kinds_same m n (nth_row 0x11 k) (kept.locals (nth_row 0x11 k) (nth_there m 0x11 k low) refl) in
+    each k p e i o there ∙ sym (ap (λ (ks : Option (List Kind)). option_and_then (λ (l : List Kind). slice_get l i) ks) same)
 
 -- a class's own virtual methods, by parts that say of the methods that were there what the others do
 abbrev pub SameSlots : Module → List MethodPart → List MethodPart → Type 0

@@ -21,12 +21,12 @@ use Rattle.enc_dispatch.specs.Index.{StandsForModule}
 use Rattle.enc_dispatch.specs.Own.{own_among, AreAllOwn}
 use Rattle.enc_dispatch.specs.Parts.{EachPart}
 use Rattle.enc_dispatch.specs.Interfaces.{says_interface}
-use Rattle.enc_dispatch.specs.Stored.{DispatchParts, class_at, own_key, impl_key, interface_key, impl_for, IsClassPart, IsMethodPart}
+use Rattle.enc_dispatch.specs.Stored.{DispatchParts, class_at, own_key, impl_key, interface_key, impl_for, IsClassPart, IsMethodPart, IsLocalsPart}
 use Rattle.enc_dispatch.proofs.Each.{each_none}
 use Rattle.enc_dispatch.proofs.Found.{buckets_none}
 use Rattle.enc_dispatch.proofs.Kept.{IsKept, kids_there, row_bounds}
 use Rattle.enc_dispatch.proofs.Later.{slot_first, filter_both, none_later, all_later, new_later, among_both}
-use Rattle.enc_dispatch.proofs.Stays.{SameSlots, buckets_same, classes_same, methods_same, impls_same, interfaces_same, among_same}
+use Rattle.enc_dispatch.proofs.Stays.{SameSlots, buckets_same, classes_same, methods_same, impls_same, interfaces_same, locals_same, among_same}
 
 -- methods that come behind others leave their slots
 slots_first : (m : Module) (methods more : List MethodPart) → length methods ≡ row_count m tables.method_def → SameSlots m methods (methods ++ more)
@@ -67,11 +67,13 @@ changed_up_to m n listed d read sound new changed kept stands counts = record {
   interfaces = λ class i. stands.interfaces class i ∙ sym (interfaces_same m n (class_at class) i kept) ∙ ap (first_below (says_interface n (class_at class) i)) (sym counts.interfaces);
   links = stands.links ∙ sym counts.methods;
   buckets = buckets_same m n (stored_head d.heads) d.links sound kept stands.links stands.buckets;
+  locals_count = stands.locals_count ∙ sym counts.locals;
+  locals = locals_same m n d.locals kept stands.locals_count stands.locals;
 }
 
 -- no rows
 abbrev pub nothing_read : RowsRead
-nothing_read = record { classes = 0; methods = 0; impls = 0; interfaces = 0 }
+nothing_read = record { classes = 0; methods = 0; impls = 0; interfaces = 0; locals = 0 }
 
 own_of_none : (n : Module) (methods : List MethodPart) (wanted : Wanted) (own : Index OwnMethod) → IsSound n → ((c s : ℕ) → value_at own (own_key c s) ≡ None) → IsOwnUpTo n methods wanted own 0
 own_of_none n methods wanted own sound none more c s =
@@ -90,4 +92,6 @@ empty_up_to d n is sound = record {
   interfaces = λ class i. is.interfaces (interface_key class i) ∙ sym (first_none (says_interface n (class_at class) i));
   links = ap length is.links;
   buckets = subst (AreBuckets (cells_of n) (stored_head d.heads)) (sym is.links) (buckets_none (cells_of n) (stored_head d.heads) (λ key. is.heads (bucket_key key)));
+  locals_count = ap length is.locals;
+  locals = subst (EachPart (IsLocalsPart n)) (sym is.locals) (each_none (IsLocalsPart n));
 }

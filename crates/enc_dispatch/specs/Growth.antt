@@ -21,7 +21,7 @@ use Rattle.enc_dispatch.specs.Entries.{earliest, where_none}
 use Rattle.enc_dispatch.specs.Own.{own_among, own_in_class}
 use Rattle.enc_dispatch.specs.Parts.{EachPart}
 use Rattle.enc_dispatch.specs.Interfaces.{says_interface}
-use Rattle.enc_dispatch.specs.Stored.{DispatchParts, class_at, own_key, impl_key, interface_key, impl_for, IsClassPart, IsMethodPart}
+use Rattle.enc_dispatch.specs.Stored.{DispatchParts, class_at, own_key, impl_key, interface_key, impl_for, IsClassPart, IsMethodPart, IsLocalsPart}
 
 -- the methods of a class behind the first so many rows, in order of attachment
 abbrev pub later_kids : Module → ℕ → ℕ → List ℕ
@@ -65,6 +65,8 @@ pub record StandsUpTo (d : DispatchParts) (m : Module) (read : RowsRead) : Type 
       value_at d.interfaces (interface_key class i) ≡ first_below (says_interface m (class_at class) i) read.interfaces
   pub links : length d.links ≡ read.methods
   pub buckets : AreBuckets (cells_of m) (stored_head d.heads) d.links
+  pub locals_count : length d.locals ≡ read.locals
+  pub locals : EachPart (IsLocalsPart m) d.locals
 
 -- no table of the module has fewer rows
 pub record HasSoMany (m : Module) (read : RowsRead) : Type 0 where
@@ -72,6 +74,7 @@ pub record HasSoMany (m : Module) (read : RowsRead) : Type 0 where
   pub methods : read.methods ≤ row_count m tables.method_def
   pub impls : read.impls ≤ row_count m tables.method_impl
   pub interfaces : read.interfaces ≤ row_count m tables.interface_impl
+  pub locals : read.locals ≤ row_count m tables.stand_alone_sig
 
 -- the rows that a module has
 pub record AreCounts (m : Module) (read : RowsRead) : Type 0 where
@@ -79,6 +82,7 @@ pub record AreCounts (m : Module) (read : RowsRead) : Type 0 where
   pub methods : read.methods ≡ row_count m tables.method_def
   pub impls : read.impls ≡ row_count m tables.method_impl
   pub interfaces : read.interfaces ≡ row_count m tables.interface_impl
+  pub locals : read.locals ≡ row_count m tables.stand_alone_sig
 
 -- what comes to an index with the rows behind the first so many
 pub record IsGrowth (d : DispatchParts) (g : Growth) (m : Module) (read : RowsRead) : Type 0 where
@@ -108,6 +112,8 @@ pub record IsGrowth (d : DispatchParts) (g : Growth) (m : Module) (read : RowsRe
   pub links : read.methods + length g.links.items ≡ row_count m tables.method_def
   pub buckets : AreBuckets (cells_of m)
       (λ key. either (latest g.heads.items (bucket_key key)) (stored_head d.heads key)) (d.links ++ g.links.items)
+  pub locals_count : read.locals + length g.locals.items ≡ row_count m tables.stand_alone_sig
+  pub locals : EachLater (IsLocalsPart m) read.locals g.locals.items
 
 -- there is room for what comes, and no more classes than an index may have
 unfoldable pub has_room_for : DispatchParts → Growth → Bool
@@ -115,6 +121,7 @@ has_room_for d g =
     nat_le (length d.classes + length g.classes.items) d.room.classes
     && nat_le (length d.methods + length g.methods.items) d.room.methods
     && nat_le (length d.links + length g.links.items) d.room.links
+    && nat_le (length d.locals + length g.locals.items) d.room.locals
     && nat_lt (length d.classes + length g.classes.items) (2 ^ 24)
 
 -- an index that has grown
@@ -128,6 +135,7 @@ pub record HasGrown (d : DispatchParts) (g : Growth) (new : DispatchParts) : Typ
       ≡ either (earliest g.interfaces.items q) (value_at d.interfaces q)
   pub heads : (q : Key) → value_at new.heads q ≡ either (latest g.heads.items q) (value_at d.heads q)
   pub links : new.links ≡ d.links ++ g.links.items
+  pub locals : new.locals ≡ d.locals ++ g.locals.items
 
 -- an index of no rows
 pub record IsEmpty (d : DispatchParts) : Type 0 where
@@ -139,3 +147,4 @@ pub record IsEmpty (d : DispatchParts) : Type 0 where
   pub interfaces : (q : Key) → value_at d.interfaces q ≡ None
   pub heads : (q : Key) → value_at d.heads q ≡ None
   pub links : d.links ≡ []
+  pub locals : d.locals ≡ []

@@ -13,7 +13,7 @@ use Rattle.enc_dispatch.specs.Buckets.{stored_head, AreBuckets}
 use Rattle.enc_dispatch.specs.Own.{AreAllOwn}
 use Rattle.enc_dispatch.specs.Parts.{nth_part, EachPart}
 use Rattle.enc_dispatch.specs.Interfaces.{says_interface}
-use Rattle.enc_dispatch.specs.Stored.{DispatchParts, class_at, own_key, impl_key, interface_key, impl_for, IsClassPart, IsMethodPart, own_part}
+use Rattle.enc_dispatch.specs.Stored.{DispatchParts, class_at, own_key, impl_key, interface_key, impl_for, IsClassPart, IsMethodPart, IsLocalsPart, own_part}
 use Rattle.enc_dispatch.specs.Walks.{method_at, takes_slot, meets, first_method}
 
 -- the index stands for the module: each of its parts is the module's
@@ -40,3 +40,5 @@ pub record StandsForModule (d : DispatchParts) (m : Module) : Type 0 where
       ≡ first_below (says_interface m (class_at class) interface) (row_count m tables.interface_impl)
   pub links : length d.links ≡ row_count m tables.method_def
   pub buckets : AreBuckets (cells_of m) (stored_head d.heads) d.links
+  pub locals_count : length d.locals ≡ row_count m tables.stand_alone_sig
+  pub locals : EachPart (IsLocalsPart m) d.locals

@@ -49,6 +49,7 @@ is_read_by_likeness t = t == tables.type_ref || t == tables.assembly_ref || t ==
 -- the other tables that are read
 abbrev pub is_read : ℕ → Bool
 is_read t = is_read_by_likeness t || t == tables.method_impl || t == tables.interface_impl
+    || t == tables.stand_alone_sig
 
 -- a row keeps what is read of it; of those tables it is taken to keep nothing
 unfoldable pub keeps_row : Module → Module → Token → Bool

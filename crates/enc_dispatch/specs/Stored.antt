@@ -1,32 +1,35 @@
 -- What the index keeps: its parts, and what they stand by.
-use Rattle.std.specs.Prelude.{◌≡◌, ℕ, List, Option, Some, None, ◌&&◌, ◌==◌, if◌then◌else◌}
+use Rattle.std.specs.Prelude.{◌≡◌, ℕ, List, Option, Some, None, option_and_then, slice_get, ◌&&◌, ◌==◌, if◌then◌else◌}
 use Rattle.enc_base.specs.Token.{nth_row, is_token}
 use Rattle.enc_base.specs.declared.token.Token.{Token}
 use Rattle.enc_key_map.specs.declared.index.Index.{Index}
 use Rattle.enc_key_map.specs.declared.key.Key.{Key}
+use Rattle.enc_machine_types.specs.Members.{local_kinds}
+use Rattle.enc_objects.specs.declared.kind.Kind.{Kind}
 use Rattle.enc_plain.specs.Module.{Module, owner_of}
 use Rattle.enc_base.specs.Tables as tables
 use Rattle.enc_dispatch.specs.declared.class_part.ClassPart.{ClassPart}
 use Rattle.enc_dispatch.specs.declared.method_part.MethodPart.{MethodPart}
 use Rattle.enc_dispatch.specs.declared.own_method.OwnMethod.{OwnMethod}
 use Rattle.enc_dispatch.specs.declared.impl_part.ImplPart.{ImplPart}
+use Rattle.enc_dispatch.specs.declared.locals_part.LocalsPart.{LocalsPart}
 use Rattle.enc_plain.specs.ClassPath.{class_base}
+use Rattle.enc_dispatch.specs.Parts.{nth_part, EachPart}
 use Rattle.enc_dispatch.specs.Slots.{slot_of}
 use Rattle.enc_dispatch.specs.Target.{is_interface}
 use Rattle.enc_dispatch.specs.Walks.{impl_class, impl_body, impl_declaration, method_at, is_new_slot}
 
--- how many classes, methods and links there is memory for
+-- how many classes, methods, links and signatures of local variables there is memory for
 pub record Room : Type 0 where
   pub classes : ℕ
   pub methods : ℕ
   pub links : ℕ
+  pub locals : ℕ
 
 -- of each class what it extends and whether it is an interface; of each method its type and its slot; by class and
--- slot the first virtual method
--- and the first public one; by class and declaration the first row of MethodImpl; by class and interface that it has
--- it;
--- by key the newest first method of a slot, and behind each method the one that was so before it; and how much room
--- there is
+-- slot the first virtual method and the first public one; by class and declaration the first row of MethodImpl; by
+-- class and interface that it has it; by key the newest first method of a slot, and behind each method the one that
+-- was so before it; of each signature the kinds of its first local variables; and how much room there is
 pub record DispatchParts : Type 0 where
   pub classes : List ClassPart
   pub methods : List MethodPart
@@ -36,6 +39,7 @@ pub record DispatchParts : Type 0 where
   pub interfaces : Index Token
   pub heads : Index ℕ
   pub links : List (Option ℕ)
+  pub locals : List LocalsPart
   pub room : Room
 
 -- the same parts with so much room
@@ -49,6 +53,7 @@ with_room room d = record {
   interfaces = d.interfaces;
   heads = d.heads;
   links = d.links;
+  locals = d.locals;
   room = room;
 }
 
@@ -85,6 +90,21 @@ pub record IsClassPart (m : Module) (n : ℕ) (p : ClassPart) : Type 0 where
 pub record IsMethodPart (m : Module) (n : ℕ) (p : MethodPart) : Type 0 where
   pub owner : owner_of m (nth_row tables.method_def n) ≡ Some p.owner
   pub slot : slot_of m (nth_row tables.method_def n) ≡ Some p.slot
+
+-- the kind of a local variable, by its number and the token of its body's signature
+abbrev pub kind_of_local : Module → Token → ℕ → Option Kind
+kind_of_local m locals n = option_and_then (λ (ks : List Kind). slice_get ks n) (local_kinds m locals)
+
+-- what is kept of it, None where nothing is
+unfoldable pub kept_local : DispatchParts → Token → ℕ → Option (Option Kind)
+kept_local d locals n =
+    if locals.table == tables.stand_alone_sig
+    then option_and_then (λ (p : LocalsPart). slice_get p.kinds n) (nth_part d.locals locals.row) else None
+
+-- a part is of the n-th signature of local variables, n from 0
+abbrev pub IsLocalsPart : Module → ℕ → LocalsPart → Type 0
+IsLocalsPart m n p =
+    EachPart (λ (i : ℕ) (o : Option Kind). o ≡ kind_of_local m (nth_row tables.stand_alone_sig n) i) p.kinds
 
 -- what stands of a class's own virtual method
 abbrev pub own_part : Module → Token → OwnMethod

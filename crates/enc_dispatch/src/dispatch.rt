@@ -10,6 +10,7 @@ ghost use Rattle.enc_dispatch.specs.Target.{target_of};
 
 use crate::class_part::ClassPart;
 use crate::impl_part::ImplPart;
+use crate::locals_part::LocalsPart;
 use crate::method_part::MethodPart;
 use crate::own_method::OwnMethod;
 use crate::rows_read::RowsRead;
@@ -31,6 +32,7 @@ pub struct Dispatch {
     pub(crate) impls: Index<ImplPart>,
     pub(crate) interfaces: Index<Token>,
     pub(crate) slots: Slots,
+    pub(crate) locals: Vec<LocalsPart>,
 }
 
 impl Model for Dispatch {
@@ -62,11 +64,13 @@ impl Model for Dispatch {
       interfaces = d.interfaces;
       heads = d.slots.heads;
       links = d.slots.next.items;
+      locals = d.locals.items;
       room =
           record {
             classes = vec_capacity d.classes;
             methods = vec_capacity d.methods;
             links = vec_capacity d.slots.next;
+            locals = vec_capacity d.locals;
           };
     } };
 
@@ -86,6 +90,7 @@ impl Dispatch {
             impls: Index::new(),
             interfaces: Index::new(),
             slots: Slots::new(alloc),
+            locals: Vec::new(alloc),
         }
     }
 
@@ -101,6 +106,7 @@ impl Dispatch {
             methods: 0,
             impls: 0,
             interfaces: 0,
+            locals: 0,
         };
         let growth = index.growth(alloc, view, nothing)?;
         index.make_room(&growth)?;

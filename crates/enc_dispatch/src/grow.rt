@@ -10,6 +10,7 @@ use crate::first::put_from_behind;
 use crate::growth::Growth;
 use crate::impls::impls_of;
 use crate::interfaces::interfaces_of;
+use crate::locals::locals_of;
 use crate::methods::methods_of;
 use crate::own::{MethodParts, own_of};
 use crate::owners::{in_order, owners_of};
@@ -57,24 +58,9 @@ impl Dispatch {
             first: &self.methods,
             more: &methods,
         };
-        let own = own_of(
-            alloc,
-            view,
-            &parts,
-            Wanted::Virtual,
-            &owners,
-            read.methods,
-            &self.own,
-        )?;
-        let met = own_of(
-            alloc,
-            view,
-            &parts,
-            Wanted::Public,
-            &owners,
-            read.methods,
-            &self.met,
-        )?;
+        let n = read.methods;
+        let own = own_of(alloc, view, &parts, Wanted::Virtual, &owners, n, &self.own)?;
+        let met = own_of(alloc, view, &parts, Wanted::Public, &owners, n, &self.met)?;
         Ok(Growth {
             classes,
             methods,
@@ -84,6 +70,7 @@ impl Dispatch {
             interfaces: interfaces_of(alloc, view, read.interfaces, &self.interfaces)?,
             heads: slots.entries,
             links: slots.next,
+            locals: locals_of(alloc, view, read.locals)?,
         })
     }
 
@@ -97,6 +84,7 @@ impl Dispatch {
         self.classes.reserve(growth.classes.len())?;
         self.methods.reserve(growth.methods.len())?;
         self.slots.next.reserve(growth.links.len())?;
+        self.locals.reserve(growth.locals.len())?;
         Ok(())
     }
 
@@ -108,6 +96,7 @@ impl Dispatch {
         self.classes.len() + growth.classes.len() <= self.classes.capacity()
             && self.methods.len() + growth.methods.len() <= self.methods.capacity()
             && self.slots.next.len() + growth.links.len() <= self.slots.next.capacity()
+            && self.locals.len() + growth.locals.len() <= self.locals.capacity()
             && self.classes.len() + growth.classes.len() < MOST_CLASSES
     }
 
@@ -125,5 +114,6 @@ impl Dispatch {
         put_from_behind(&mut self.interfaces, growth.interfaces);
         self.slots.heads.put_all(growth.heads);
         append_within(&mut self.slots.next, growth.links);
+        append_within(&mut self.locals, growth.locals);
     }
 }

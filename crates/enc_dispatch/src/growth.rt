@@ -1,6 +1,7 @@
 //! What comes to an index with rows that are added to its module.
 use crate::class_part::ClassPart;
 use crate::impl_part::ImplPart;
+use crate::locals_part::LocalsPart;
 use crate::method_part::MethodPart;
 use crate::own_method::OwnMethod;
 use enc_base::Token;
@@ -19,4 +20,5 @@ pub struct Growth {
     pub(crate) interfaces: Vec<KeyEntry<Token>>,
     pub(crate) heads: Vec<KeyEntry<u32>>,
     pub(crate) links: Vec<Option<u32>>,
+    pub(crate) locals: Vec<LocalsPart>,
 }

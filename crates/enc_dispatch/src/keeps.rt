@@ -9,8 +9,8 @@ ghost use Rattle.enc_dispatch.specs.Keeps.{keeps_signature, keeps_method, keeps_
 use crate::path::is_same;
 use enc_base::Token;
 use enc_base::tables::{
-    ASSEMBLY_REF, INTERFACE_IMPL, METHOD_DEF, METHOD_IMPL, MODULE_REF, TYPE_DEF, TYPE_REF,
-    TYPE_SPEC,
+    ASSEMBLY_REF, INTERFACE_IMPL, METHOD_DEF, METHOD_IMPL, MODULE_REF, STAND_ALONE_SIG, TYPE_DEF,
+    TYPE_REF, TYPE_SPEC,
 };
 use enc_plain::{CellView, KnownAlike, ModuleView, Viewed, is_row};
 use enc_schema::columns::{
@@ -97,6 +97,7 @@ fn is_read(table: u8) -> bool
         || table == TYPE_SPEC
         || table == METHOD_IMPL
         || table == INTERFACE_IMPL
+        || table == STAND_ALONE_SIG
 }
 
 /// A row that was there keeps what is read of it.

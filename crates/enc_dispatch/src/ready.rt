@@ -13,7 +13,7 @@ use crate::keeps::all_keep;
 use crate::new_dispatch::{Change, NewDispatch};
 use crate::rows_read::RowsRead;
 use enc_base::Token;
-use enc_base::tables::{INTERFACE_IMPL, METHOD_DEF, METHOD_IMPL, TYPE_DEF};
+use enc_base::tables::{INTERFACE_IMPL, METHOD_DEF, METHOD_IMPL, STAND_ALONE_SIG, TYPE_DEF};
 use enc_plain::ModuleView;
 use std::alloc::{AllocError, Global};
 
@@ -26,6 +26,7 @@ fn rows_of<V: ModuleView>(view: &V) -> RowsRead
         methods: view.count(METHOD_DEF),
         impls: view.count(METHOD_IMPL),
         interfaces: view.count(INTERFACE_IMPL),
+        locals: view.count(STAND_ALONE_SIG),
     }
 }
 

@@ -11,4 +11,6 @@ pub struct RowsRead {
     pub impls: u32,
     /// Of InterfaceImpl.
     pub interfaces: u32,
+    /// Of StandAloneSig.
+    pub locals: u32,
 }

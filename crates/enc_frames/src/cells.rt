@@ -22,6 +22,7 @@ impl Model for Cells {
 
 impl Cells {
     /// These values. It takes no memory.
+    #[inline(always)]
     pub(crate) fn of(items: Vec<Value>) -> Cells
         ensures { result ≡ items.items }
     {
@@ -29,6 +30,7 @@ impl Cells {
     }
 
     /// How many there are.
+    #[inline(always)]
     pub(crate) fn len(&self) -> usize
         ensures { result ≡ length self.now }
     {
@@ -36,6 +38,7 @@ impl Cells {
     }
 
     /// The value of a number, None past the last.
+    #[inline(always)]
     pub(crate) fn get(&self, n: u32) -> Option<Value>
         ensures { result ≡ slice_get self.now n }
     {
@@ -43,6 +46,7 @@ impl Cells {
     }
 
     /// Sets the value of a number, where there is one.
+    #[inline(always)]
     pub(crate) fn set(&mut self, n: u32, value: Value)
         ensures { self.new ≡ slice_set self.old n value }
     {

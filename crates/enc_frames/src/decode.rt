@@ -8,6 +8,7 @@ use enc_base::Token;
 use enc_objects::{Kind, Value};
 
 /// The kind of an element by the instruction that loads it (ECMA-335 III.4.8).
+#[inline(always)]
 #[tactic(auto, unfolding(crate::specs::Acts::loaded_kind))]
 fn loaded_kind(code: u16) -> Option<Kind>
     ensures { result ≡ loaded_kind code }
@@ -26,6 +27,7 @@ fn loaded_kind(code: u16) -> Option<Kind>
 }
 
 /// And by the one that stores it (ECMA-335 III.4.26).
+#[inline(always)]
 #[tactic(auto, unfolding(crate::specs::Acts::stored_kind))]
 fn stored_kind(code: u16) -> Option<Kind>
     ensures { result ≡ stored_kind code }
@@ -41,6 +43,7 @@ fn stored_kind(code: u16) -> Option<Kind>
 }
 
 /// Instructions on the elements of arrays.
+#[inline(always)]
 fn element_act(code: u16) -> Option<Act>
     ensures { result ≡ element_act code }
 {
@@ -57,6 +60,7 @@ fn element_act(code: u16) -> Option<Act>
 }
 
 /// Those that stand alone.
+#[inline(always)]
 #[tactic(auto, unfolding(crate::specs::Acts::bare_act))]
 pub fn bare_act(code: u16) -> Option<Act>
     ensures { result ≡ bare_act code }
@@ -79,6 +83,7 @@ pub fn bare_act(code: u16) -> Option<Act>
 }
 
 /// The number as four bytes hold it.
+#[inline(always)]
 fn low_word(n: i64) -> u32
     ensures { result ≡ modulo 32 n }
 {
@@ -86,6 +91,7 @@ fn low_word(n: i64) -> u32
 }
 
 /// Those with a number.
+#[inline(always)]
 #[tactic(auto, unfolding(crate::specs::Acts::numbered_act))]
 pub fn numbered_act(code: u16, n: i64) -> Option<Act>
     ensures { result ≡ numbered_act code n }
@@ -103,6 +109,7 @@ pub fn numbered_act(code: u16, n: i64) -> Option<Act>
 }
 
 /// A branch by a comparison, short or long.
+#[inline(always)]
 #[tactic(auto, unfolding(crate::specs::Acts::test_at))]
 fn test_at(code: u16) -> Option<Test>
     ensures { result ≡ test_at code }
@@ -123,6 +130,7 @@ fn test_at(code: u16) -> Option<Test>
 }
 
 /// Those that go to an offset.
+#[inline(always)]
 #[tactic(auto, unfolding(crate::specs::Acts::branch_act))]
 pub fn branch_act(code: u16, goal: u32) -> Option<Act>
     ensures { result ≡ branch_act code goal }
@@ -140,6 +148,7 @@ pub fn branch_act(code: u16, goal: u32) -> Option<Act>
 }
 
 /// Those that name a member or a type.
+#[inline(always)]
 #[tactic(auto, unfolding(crate::specs::Acts::token_act))]
 pub fn token_act(code: u16, token: Token) -> Option<Act>
     ensures { result ≡ token_act code token }

@@ -52,6 +52,7 @@ impl Model for Frame {
 
 impl Frame {
     /// Its body.
+    #[inline(always)]
     pub fn body(&self) -> CodeRef<'_>
         ensures body { code_seen result ≡ self.now.code.code }
         ensures few { length self.now.code.code.code < 2 ^ 32 }
@@ -61,6 +62,7 @@ impl Frame {
     }
 
     /// Its method.
+    #[inline(always)]
     pub fn method(&self) -> Token
         ensures method { result ≡ self.now.method }
         ensures table { result.table ≡ method_def }
@@ -69,6 +71,7 @@ impl Frame {
     }
 
     /// The offset of its next instruction.
+    #[inline(always)]
     pub fn offset(&self) -> u32
         ensures { result ≡ self.now.offset }
     {
@@ -76,6 +79,7 @@ impl Frame {
     }
 
     /// The code that it keeps: the one with which it began, or that of its last move.
+    #[inline(always)]
     pub fn code(&self) -> &Rc<Code>
         ensures { result.now.value ≡ self.now.code }
     {
@@ -83,6 +87,7 @@ impl Frame {
     }
 
     /// Its stack.
+    #[inline(always)]
     pub fn stack(&self) -> &Stack
         ensures { result.now ≡ self.now.stack }
     {
@@ -109,6 +114,7 @@ impl Frame {
     }
 
     /// How many values its stack may hold.
+    #[inline(always)]
     pub(crate) fn max(&self) -> u16
         ensures { result ≡ self.now.code.code.max }
     {

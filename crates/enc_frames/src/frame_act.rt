@@ -8,12 +8,14 @@ ghost use Rattle.enc_frames.specs.Straight.{moved_on};
 
 use crate::act::FrameAct;
 use crate::frame::Frame;
+use crate::indexed_module::IndexedModule;
 use crate::stop::Stop;
 use enc_plain::ModuleView;
 use std::alloc::Global;
 
 impl Frame {
     /// It goes on at an offset.
+    #[inline(always)]
     fn go_on(&mut self, next: u32) -> Result<(), Stop>
         ensures { Does result self.new self.old (Ok (moved_on next self.old.stack self.old)) }
     {
@@ -26,23 +28,28 @@ impl Frame {
     enc_opcodes::specs::Body::body_of // what a body's parts mean
     ))]
     /// What an instruction does to its frame alone; behind it the frame goes on at an offset.
+    #[inline(always)]
     pub fn act<V: ModuleView>(
         &mut self,
         alloc: Global,
-        view: &V,
+        module: &IndexedModule<'_, V>,
         next: u32,
         act: FrameAct,
     ) -> Result<(), Stop>
         ensures { (users : ℕ → Option (List ℕ)) (methods : List (Option Version))
             → Does result self.new self.old
-            (frame_act (version_world users (V.meaning view.now) methods) next act self.old) }
+            (frame_act (version_world users (V.meaning module.now) methods) next act self.old) }
     {
         match act {
             FrameAct::Nothing => self.go_on(next),
             FrameAct::LoadArg(n) => self.load_argument(next, n),
-            FrameAct::StoreArg(n) => self.store_argument(self.argument_kind(view, n), next, n),
+            FrameAct::StoreArg(n) => self.store_argument(
+                self.argument_kind(module.view(), n),
+                next,
+                n,
+            ),
             FrameAct::LoadLocal(n) => self.load_local(next, n),
-            FrameAct::StoreLocal(n) => self.store_local(self.local_kind(view, n), next, n),
+            FrameAct::StoreLocal(n) => self.store_local(self.local_kind(module, n), next, n),
             FrameAct::Constant(value) => self.load(next, value),
             FrameAct::Duplicate => self.duplicate(next),
             FrameAct::Discard => self.discard(next),

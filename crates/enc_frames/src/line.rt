@@ -8,6 +8,7 @@ use enc_seqpoints::Points;
 
 /// The start line of the point at an offset, None where none stands there or a hidden one (Portable PDB v1.0,
 /// sequence points). Its time is logarithmic in the number of points.
+#[inline(always)]
 fn line_in(points: &Points, offset: u32) -> Option<u32>
     ensures { result ≡ line_among offset (lines_read points.now).points }
 {
@@ -24,6 +25,7 @@ fn line_in(points: &Points, offset: u32) -> Option<u32>
 impl Frame {
     /// The start line of the sequence point at which it stands, None where it stands at none or at a hidden
     /// one.
+    #[inline(always)]
     pub fn line(&self) -> Option<u32>
         ensures { result ≡ line_among self.now.offset (lines_read self.now.code.points).points }
     {

@@ -7,9 +7,10 @@ ghost use Rattle.enc_frames.specs.Memory.{named_field};
 ghost use Rattle.enc_frames.specs.Straight.{argument_kinds, argument_kind, local_kind};
 
 use crate::frame::Frame;
+use crate::indexed_module::IndexedModule;
 use enc_base::Token;
 use enc_base::tables::{FIELD, METHOD_DEF};
-use enc_machine_types::{MethodShape, field_kind, local_kind_at, method_shape};
+use enc_machine_types::{MethodShape, field_kind, method_shape};
 use enc_objects::{Kind, Trap};
 use enc_plain::ModuleView;
 
@@ -40,14 +41,19 @@ impl Frame {
     }
 
     /// The kind of a local variable, by the signature that its code names.
+    #[inline(always)]
     #[tactic(auto, unfolding(crate::specs::Straight::local_kind))]
-    pub(crate) fn local_kind<V: ModuleView>(&self, view: &V, n: u32) -> Option<Kind>
-        ensures { result ≡ local_kind (V.meaning view.now) self.now.code.code.locals self.now n }
+    pub(crate) fn local_kind<V: ModuleView>(
+        &self,
+        module: &IndexedModule<'_, V>,
+        n: u32,
+    ) -> Option<Kind>
+        ensures { result ≡ local_kind (V.meaning module.now) self.now.code.code.locals self.now n }
     {
         if n as usize >= self.locals.len() {
             return None;
         }
-        local_kind_at(view, self.body().locals, n)
+        module.local_kind(self.body().locals, n)
     }
 }
 

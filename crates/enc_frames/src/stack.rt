@@ -26,6 +26,7 @@ impl Model for Stack {
 impl Stack {
     /// No values. It takes no memory: a body may name room for 65,535 values and use one, so the stack grows as it
     /// is used.
+    #[inline(always)]
     pub(crate) fn begin(alloc: Global) -> Stack
         ensures { result ≡ [] }
     {
@@ -35,6 +36,7 @@ impl Stack {
     }
 
     /// How many values there are.
+    #[inline(always)]
     pub(crate) fn len(&self) -> usize
         ensures { result ≡ length self.now }
     {
@@ -49,6 +51,7 @@ impl Stack {
     }
 
     /// The value so many below the top, None where there are fewer.
+    #[inline(always)]
     pub(crate) fn below_top(&self, i: usize) -> Option<Value>
         ensures { result ≡ slice_get self.now i }
     {
@@ -60,6 +63,7 @@ impl Stack {
     }
 
     /// The value on the top.
+    #[inline(always)]
     pub fn upper(&self) -> Result<Value, Trap>
         ensures { result ≡ upper self.now }
     {
@@ -70,6 +74,7 @@ impl Stack {
     }
 
     /// The two upper values, the top last.
+    #[inline(always)]
     pub(crate) fn upper_two(&self) -> Result<(Value, Value), Trap>
         ensures { result ≡ upper_two self.now }
     {
@@ -111,6 +116,7 @@ impl Stack {
     }
 
     /// One value more. Without memory nothing changes.
+    #[inline(always)]
     pub(crate) fn push(&mut self, value: Value) -> Result<(), AllocError>
         ensures ok { OnOk result (self.new ≡ value ∷ self.old) }
         ensures err { OnErr result (self.new ≡ self.old) }
@@ -120,6 +126,7 @@ impl Stack {
     }
 
     /// So many upper values go, or all where there are fewer.
+    #[inline(always)]
     pub(crate) fn remove(&mut self, n: usize)
         ensures { self.new ≡ drop n self.old }
     {
@@ -152,6 +159,7 @@ impl Stack {
     }
 
     /// A value stands in the place of so many upper ones, of which there is one at least.
+    #[inline(always)]
     pub(crate) fn replace(&mut self, n: usize, value: Value)
         requires some { 0 < n }
         requires there { n ≤ length self.old }

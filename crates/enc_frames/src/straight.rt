@@ -12,6 +12,7 @@ use enc_opcodes::Op;
 
 impl Frame {
     /// A value goes on the stack.
+    #[inline(always)]
     #[tactic(auto, unfolding(crate::specs::Straight::load))]
     pub(crate) fn load(&mut self, next: u32, value: Value) -> Result<(), Stop>
         ensures { Does result self.new self.old (load self.old.code.code.max next value self.old) }
@@ -25,6 +26,7 @@ impl Frame {
     }
 
     /// `ldarg` (ECMA-335 III.3.38).
+    #[inline(always)]
     #[tactic(auto, unfolding(crate::specs::Straight::load_argument))]
     pub(crate) fn load_argument(&mut self, next: u32, n: u32) -> Result<(), Stop>
         ensures { Does result self.new self.old (load_argument self.old.code.code.max next n self.old) }
@@ -36,6 +38,7 @@ impl Frame {
     }
 
     /// `ldloc` (ECMA-335 III.3.43).
+    #[inline(always)]
     #[tactic(auto, unfolding(crate::specs::Straight::load_local))]
     pub(crate) fn load_local(&mut self, next: u32, n: u32) -> Result<(), Stop>
         ensures { Does result self.new self.old (load_local self.old.code.code.max next n self.old) }
@@ -47,6 +50,7 @@ impl Frame {
     }
 
     /// `starg`, by the argument's kind (ECMA-335 III.3.61).
+    #[inline(always)]
     #[tactic(auto, unfolding(crate::specs::Straight::store_argument))]
     pub(crate) fn store_argument(
         &mut self,
@@ -68,6 +72,7 @@ impl Frame {
     }
 
     /// `stloc`, by the local variable's kind (ECMA-335 III.3.63).
+    #[inline(always)]
     #[tactic(auto, unfolding(crate::specs::Straight::store_local))]
     pub(crate) fn store_local(&mut self, kind: Option<Kind>, next: u32, n: u32) -> Result<(), Stop>
         ensures { Does result self.new self.old (store_local kind next n self.old) }
@@ -84,6 +89,7 @@ impl Frame {
     }
 
     /// `dup` (ECMA-335 III.3.34).
+    #[inline(always)]
     #[tactic(auto, unfolding(crate::specs::Straight::duplicate))]
     pub(crate) fn duplicate(&mut self, next: u32) -> Result<(), Stop>
         ensures { Does result self.new self.old (duplicate self.old.code.code.max next self.old) }
@@ -95,6 +101,7 @@ impl Frame {
     }
 
     /// `pop` (ECMA-335 III.3.54).
+    #[inline(always)]
     #[tactic(auto, unfolding(crate::specs::Straight::discard))]
     pub(crate) fn discard(&mut self, next: u32) -> Result<(), Stop>
         ensures { Does result self.new self.old (discard next self.old) }
@@ -106,6 +113,7 @@ impl Frame {
     }
 
     /// An instruction on two values.
+    #[inline(always)]
     #[tactic(auto, unfolding(crate::specs::Straight::on_upper_two))]
     pub fn on_upper_two(&mut self, op: Op, next: u32) -> Result<(), Stop>
         ensures { Does result self.new self.old (on_upper_two op next self.old) }
@@ -118,6 +126,7 @@ impl Frame {
     }
 
     /// An instruction on one value.
+    #[inline(always)]
     #[tactic(auto, unfolding(crate::specs::Straight::on_top))]
     pub fn on_top(&mut self, op: Op, next: u32) -> Result<(), Stop>
         ensures { Does result self.new self.old (on_top op next self.old) }
@@ -130,6 +139,7 @@ impl Frame {
     }
 
     /// `brtrue` where true is wanted, `brfalse` where false is (ECMA-335 III.3.17, III.3.18).
+    #[inline(always)]
     #[tactic(auto, unfolding(crate::specs::Straight::branch_if))]
     pub(crate) fn branch_if(&mut self, wanted: bool, goal: u32, next: u32) -> Result<(), Stop>
         ensures { Does result self.new self.old (branch_if wanted goal next self.old) }
@@ -141,6 +151,7 @@ impl Frame {
     }
 
     /// A branch by a comparison (ECMA-335 III.3.5 to III.3.14).
+    #[inline(always)]
     #[tactic(auto, unfolding(crate::specs::Straight::branch_by))]
     pub(crate) fn branch_by(&mut self, test: Test, goal: u32, next: u32) -> Result<(), Stop>
         ensures { Does result self.new self.old (branch_by test goal next self.old) }

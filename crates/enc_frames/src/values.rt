@@ -7,6 +7,7 @@ use enc_objects::{Kind, Trap, Value, binary};
 use enc_opcodes::{Op, Operand};
 
 /// A value as a place of a kind holds it.
+#[inline(always)]
 pub(crate) fn fit(kind: Kind, value: Value) -> Result<Value, Trap>
     ensures { result ≡ fit kind value }
 {
@@ -17,6 +18,7 @@ pub(crate) fn fit(kind: Kind, value: Value) -> Result<Value, Trap>
 }
 
 /// Whether a value isn't zero and isn't null.
+#[inline(always)]
 pub(crate) fn is_set(value: Value) -> bool
     ensures { result ≡ is_set value }
 {
@@ -39,6 +41,7 @@ pub(crate) fn word(value: Value) -> Result<i32, Trap>
 }
 
 /// The number of the object that a reference is of, None within of null.
+#[inline(always)]
 pub fn reference(value: Value) -> Result<Option<u32>, Trap>
     ensures { result ≡ reference value }
 {
@@ -50,6 +53,7 @@ pub fn reference(value: Value) -> Result<Option<u32>, Trap>
 }
 
 /// Whether a value is an integer.
+#[inline(always)]
 fn is_integer(value: Value) -> bool
     ensures { result ≡ is_integer_value value }
 {
@@ -60,6 +64,7 @@ fn is_integer(value: Value) -> bool
 }
 
 /// What the comparison with this code says of two values.
+#[inline(always)]
 fn holds(code: u16, a: Value, b: Value) -> Result<bool, Trap>
     ensures { result ≡ compare_says code a b }
 {
@@ -72,6 +77,7 @@ fn holds(code: u16, a: Value, b: Value) -> Result<bool, Trap>
 }
 
 /// The contrary.
+#[inline(always)]
 fn fails(code: u16, a: Value, b: Value) -> Result<bool, Trap>
     ensures { result ≡ fails code a b }
 {
@@ -80,6 +86,7 @@ fn fails(code: u16, a: Value, b: Value) -> Result<bool, Trap>
 }
 
 /// What a branch asks of two values (ECMA-335 III.3.5 to III.3.14).
+#[inline(always)]
 #[tactic(auto, unfolding(crate::specs::Values::tested))]
 pub(crate) fn tested(test: Test, a: Value, b: Value) -> Result<bool, Trap>
     ensures { result ≡ tested test a b }

@@ -8,18 +8,21 @@ use crate::operation::{Arithmetic, Size};
 use crate::trap::Trap;
 use crate::value::Value;
 
+#[inline(always)]
 fn sum(x: i64, y: i64) -> i128
     ensures { result ≡ x +ℤ y }
 {
     i128::from(x) + i128::from(y)
 }
 
+#[inline(always)]
 fn difference(x: i64, y: i64) -> i128
     ensures { result ≡ x -ℤ y }
 {
     i128::from(x) - i128::from(y)
 }
 
+#[inline(always)]
 fn product(x: i64, y: i64) -> i128
     ensures { result ≡ x *ℤ y }
 {
@@ -108,6 +111,7 @@ fn left_without_sign(size: Size, x: u64, y: u64) -> Result<Value, Trap>
 }
 
 /// What an operation gives for two integers of a size.
+#[inline(always)]
 #[tactic(auto, unfolding(crate::specs::Values::calculated))]
 fn calculated(o: Arithmetic, size: Size, x: i64, y: i64) -> Result<Value, Trap>
     ensures { result ≡ calculated_as o size x y }
@@ -136,6 +140,7 @@ fn calculated(o: Arithmetic, size: Size, x: i64, y: i64) -> Result<Value, Trap>
 }
 
 /// The same for two values, which are integers of one size.
+#[inline(always)]
 #[tactic(auto, unfolding(crate::specs::Values::binary_of))]
 pub(crate) fn calculate(o: Arithmetic, a: Value, b: Value) -> Result<Value, Trap>
     ensures { result ≡ binary_of (Calculates o) a b }

@@ -8,6 +8,7 @@ use crate::trap::Trap;
 use crate::value::Value;
 
 /// 1 or 0.
+#[inline(always)]
 fn truth(holds: bool) -> Value
     ensures { result ≡ truth_of holds }
 {
@@ -15,6 +16,7 @@ fn truth(holds: bool) -> Value
 }
 
 /// What a comparison says of two integers of a size.
+#[inline(always)]
 #[tactic(auto, unfolding(crate::specs::Values::compares))]
 fn compares(o: Comparison, size: Size, x: i64, y: i64) -> bool
     ensures { result ≡ compares_as o size x y }
@@ -30,6 +32,7 @@ fn compares(o: Comparison, size: Size, x: i64, y: i64) -> bool
 }
 
 /// What a comparison says of two references, which are in order as these numbers are.
+#[inline(always)]
 #[tactic(auto, unfolding(crate::specs::Values::compared_references))]
 fn compare_references(o: Comparison, m: u64, n: u64) -> Result<Value, Trap>
     ensures { result ≡ compared_references o m n }
@@ -42,6 +45,7 @@ fn compare_references(o: Comparison, m: u64, n: u64) -> Result<Value, Trap>
 }
 
 /// What a comparison says of two values: 1 or 0.
+#[inline(always)]
 #[tactic(auto, unfolding(crate::specs::Values::compared))]
 pub(crate) fn compare(o: Comparison, a: Value, b: Value) -> Result<Value, Trap>
     ensures { result ≡ compared o a b }

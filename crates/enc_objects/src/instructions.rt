@@ -15,6 +15,7 @@ use enc_opcodes::Op;
 /// What an instruction gives for the two values that it takes from the stack, `b` the upper: arithmetic, shifts, and
 /// the comparisons that aren't branches (ECMA-335 III.3). X2 where the instruction is none of these, X4 where it
 /// doesn't take such values, X6 for a division by zero, X7 where the result doesn't fit.
+#[inline(always)]
 #[tactic(auto, unfolding(crate::specs::Values::binary_of, crate::specs::Instructions::on_two))]
 pub fn binary(op: Op, a: Value, b: Value) -> Result<Value, Trap>
     ensures { result ≡ on_two op a b }
@@ -28,6 +29,7 @@ pub fn binary(op: Op, a: Value, b: Value) -> Result<Value, Trap>
 }
 
 /// Whether an instruction takes two values from the stack and gives one, as `binary` says.
+#[inline(always)]
 pub fn is_binary(op: Op) -> bool
     ensures { result ≡ is_some (binary_of_op op) }
 {
@@ -35,6 +37,7 @@ pub fn is_binary(op: Op) -> bool
 }
 
 /// Whether an instruction takes one value from the stack and gives one, as `convert` says.
+#[inline(always)]
 pub fn is_unary(op: Op) -> bool
     ensures { result ≡ is_some (unary_of_op op) }
 {
@@ -44,6 +47,7 @@ pub fn is_unary(op: Op) -> bool
 /// What an instruction gives for the value that it takes from the stack: the conversions to integers of a size,
 /// `neg` and `not` (ECMA-335 III.3). X2 where the instruction is none of these, X4 for a reference, X7 where a checked
 /// conversion's kind doesn't have the number.
+#[inline(always)]
 #[tactic(auto, unfolding(crate::specs::Instructions::on_one))]
 pub fn convert(op: Op, a: Value) -> Result<Value, Trap>
     ensures { result ≡ on_one op a }

@@ -23,6 +23,7 @@ pub enum Kind {
 
 impl Kind {
     /// What a place of the kind holds before anything is stored there.
+    #[inline(always)]
     #[tactic(auto, unfolding(crate::specs::Values::default_of))]
     pub fn default_value(self) -> Value
         ensures { result ≡ default_of self }

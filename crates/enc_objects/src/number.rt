@@ -8,6 +8,7 @@ use crate::trap::Trap;
 use crate::value::Value;
 
 /// The number modulo 2^8.
+#[inline(always)]
 fn modulo_8(n: i128) -> u8
     ensures { result ≡ modulo 8 n }
 {
@@ -15,6 +16,7 @@ fn modulo_8(n: i128) -> u8
 }
 
 /// The number modulo 2^16.
+#[inline(always)]
 fn modulo_16(n: i128) -> u16
     ensures { result ≡ modulo 16 n }
 {
@@ -22,6 +24,7 @@ fn modulo_16(n: i128) -> u16
 }
 
 /// The number modulo 2^32.
+#[inline(always)]
 fn modulo_32(n: i128) -> u32
     ensures { result ≡ modulo 32 n }
 {
@@ -29,6 +32,7 @@ fn modulo_32(n: i128) -> u32
 }
 
 /// The number modulo 2^64.
+#[inline(always)]
 fn modulo_64(n: i128) -> u64
     ensures { result ≡ modulo 64 n }
 {
@@ -36,6 +40,7 @@ fn modulo_64(n: i128) -> u64
 }
 
 /// The number of the kind that has the low bits of this one.
+#[inline(always)]
 #[tactic(auto, unfolding(crate::specs::Values::cut))]
 pub(crate) fn cut(kind: Kind, n: i128) -> i128
     ensures { result ≡ number_cut kind n }
@@ -54,6 +59,7 @@ pub(crate) fn cut(kind: Kind, n: i128) -> i128
 }
 
 /// The integer on the stack that has the bits of a kind's number.
+#[inline(always)]
 #[tactic(auto, unfolding(crate::specs::Values::held))]
 pub(crate) fn held(kind: Kind, n: i128) -> Value
     ensures { result ≡ held_as kind n }
@@ -96,6 +102,7 @@ pub(crate) fn checked(kind: Kind, n: i128) -> Result<Value, Trap>
 
 impl Size {
     /// The kind of its integers with a sign.
+    #[inline(always)]
     pub(crate) fn signed(self) -> Kind
         ensures { result ≡ signed_kind self }
     {
@@ -106,6 +113,7 @@ impl Size {
     }
 
     /// The kind of its integers without a sign.
+    #[inline(always)]
     pub(crate) fn unsigned(self) -> Kind
         ensures { result ≡ unsigned_kind self }
     {
@@ -117,6 +125,7 @@ impl Size {
 }
 
 /// The number that an integer is without its sign.
+#[inline(always)]
 pub(crate) fn bits_of(size: Size, n: i128) -> u64
     ensures { result ≡ without_sign size n }
 {

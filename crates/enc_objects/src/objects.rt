@@ -155,6 +155,7 @@ impl Objects {
     }
 
     /// The object of a number, None where there is none.
+    #[inline(always)]
     fn object(&self, id: u32) -> Option<&Object>
         ensures { option_map (λ o. o.now) result ≡ object_at self.now id }
     {
@@ -163,6 +164,7 @@ impl Objects {
     }
 
     /// What the object of a number is. None exactly where there is no such object.
+    #[inline(always)]
     #[tactic(auto, unfolding(crate::specs::Objects::shape_in, crate::specs::Objects::has_object))]
     pub fn shape(&self, id: u32) -> Option<Shape>
         ensures shape { result ≡ shape_in self.now id }
@@ -174,6 +176,7 @@ impl Objects {
 
     /// The value of an object's field, which is its kind's default where none was set, or where there is no such
     /// object.
+    #[inline(always)]
     #[tactic(auto, unfolding(crate::specs::Objects::field_in, crate::specs::Objects::fields_in))]
     pub fn get_field(&self, id: u32, field: Token, kind: Kind) -> Value
         ensures { result ≡ field_in self.now id field kind }
@@ -222,6 +225,7 @@ impl Objects {
 
     /// The element of an array at an index from 0. None exactly where there is no such object, it isn't an array, or
     /// it hasn't so many elements.
+    #[inline(always)]
     #[tactic(auto, unfolding(crate::specs::Objects::element_in))]
     pub fn element(&self, id: u32, i: u32) -> Option<Value>
         ensures { result ≡ element_in self.now id i }

@@ -8,6 +8,7 @@ use crate::value::Value;
 
 impl Kind {
     /// Whether its values are integers of 64 bits.
+    #[inline(always)]
     fn is_long(self) -> bool
         ensures { result ≡ is_long self }
     {
@@ -18,6 +19,7 @@ impl Kind {
     }
 
     /// Whether its values are references.
+    #[inline(always)]
     fn is_reference(self) -> bool
         ensures { result ≡ is_reference_kind self }
     {
@@ -30,6 +32,7 @@ impl Kind {
 
     /// A value as a place of the kind holds it: an integer is cut to the kind's width and extended by its
     /// sign (ECMA-335 III.1.6). None where it is of a wrong kind.
+    #[inline(always)]
     #[tactic(auto, unfolding(crate::specs::Places::stored_as))]
     pub fn stored(self, value: Value) -> Option<Value>
         ensures { result ≡ stored_as self value }

@@ -90,6 +90,7 @@ static FROM_CONV_OVF_I1: [Unary; 8] = [
 static FROM_CONV_U2: [Unary; 2] = [Conv(Kind::U2), Conv(Kind::U1)];
 
 /// What stands at a code in a run of instructions on two values, whose first has this code.
+#[inline(always)]
 #[tactic(auto, unfolding(crate::specs::Instructions::in_run))]
 fn in_binary_run(first: u16, run: &[Binary], code: u16) -> Option<Binary>
     ensures { result ≡ held_in_run first run.now code }
@@ -101,6 +102,7 @@ fn in_binary_run(first: u16, run: &[Binary], code: u16) -> Option<Binary>
 }
 
 /// The same of instructions on one value.
+#[inline(always)]
 #[tactic(auto, unfolding(crate::specs::Instructions::in_run))]
 fn in_unary_run(first: u16, run: &[Unary], code: u16) -> Option<Unary>
     ensures { result ≡ held_in_run first run.now code }
@@ -112,6 +114,7 @@ fn in_unary_run(first: u16, run: &[Unary], code: u16) -> Option<Unary>
 }
 
 /// The operation on two values with this code.
+#[inline(always)]
 #[tactic(auto, unfolding(crate::specs::Instructions::binary_at))]
 fn binary_with(code: u16) -> Option<Binary>
     ensures { result ≡ binary_at code }
@@ -126,6 +129,7 @@ fn binary_with(code: u16) -> Option<Binary>
 }
 
 /// The operation on one value with this code.
+#[inline(always)]
 #[tactic(auto, unfolding(crate::specs::Instructions::unary_at))]
 fn unary_with(code: u16) -> Option<Unary>
     ensures { result ≡ unary_at code }
@@ -146,6 +150,7 @@ fn unary_with(code: u16) -> Option<Unary>
 }
 
 /// Whether nothing stands behind the instruction's code.
+#[inline(always)]
 fn stands_alone(operand: Operand) -> bool
     ensures { result ≡ has_no_operand operand }
 {
@@ -153,6 +158,7 @@ fn stands_alone(operand: Operand) -> bool
 }
 
 /// What an instruction does with two values. None where it isn't one on two values.
+#[inline(always)]
 pub(crate) fn binary_in(op: Op) -> Option<Binary>
     ensures { result ≡ binary_of_op op }
 {
@@ -163,6 +169,7 @@ pub(crate) fn binary_in(op: Op) -> Option<Binary>
 }
 
 /// What an instruction does with one value. None where it isn't one on one value.
+#[inline(always)]
 pub(crate) fn unary_in(op: Op) -> Option<Unary>
     ensures { result ≡ unary_of_op op }
 {

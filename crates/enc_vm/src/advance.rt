@@ -29,6 +29,7 @@ fn bytes_law(bytes: &[u8])
 }
 
 /// The instruction at an offset of a code, and the offset behind it.
+#[inline(always)]
 pub(crate) fn instruction_in<'a>(code: &'a Code, offset: u32) -> Option<(Instr<'a>, u32)>
     ensures instr { option_map instr_seen result ≡ instr_in code.now.code.code offset }
     ensures bytes { AreBytes code.now.code.code }
@@ -41,6 +42,7 @@ pub(crate) fn instruction_in<'a>(code: &'a Code, offset: u32) -> Option<(Instr<'
 impl Thread {
     /// The instruction at which the innermost frame stands. X1 where it stands behind its code. Where it
     /// traps, and without memory, nothing changes.
+    #[inline(always)]
     #[tactic(auto, using(crate::proofs::AtOffset::ends_at, crate::proofs::AtOffset::performs_at))]
     pub(crate) fn advance<V: ModuleView>(
         &mut self,

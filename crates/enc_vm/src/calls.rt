@@ -18,7 +18,7 @@ ghost use Rattle.enc_vm.specs.TouchSeen.{constructed_in, first_on};
 ghost use Rattle.enc_frames.specs.Machine.{Shared as TheShared};
 
 use crate::declaring::{
-    FirstTouch, call_touches, declaring, first_touch, is_interface, is_virtual,
+    FirstTouch, call_touches, declaring, declaring_in, first_touch, is_interface, is_virtual,
 };
 use crate::enter::CallSite;
 use crate::returns::FrameChange;
@@ -300,7 +300,7 @@ impl Thread {
         if !call_touches(world.view, call.method) {
             return self.call_with(world, &shared.objects, call);
         }
-        let owner = declaring(world.view, call.method);
+        let owner = declaring_in(world, call.method);
         match first_touch(world.alloc, world.view, &shared.touched, owner) {
             Err(_) => Err(Stop::Memory),
             Ok(None) => self.call_with(world, &shared.objects, call),

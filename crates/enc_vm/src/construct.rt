@@ -15,7 +15,7 @@ ghost use Rattle.enc_vm.specs.SharedSeen.{shared_in};
 ghost use Rattle.enc_vm.specs.TouchSeen.{first_on};
 ghost use Rattle.enc_vm.specs.World.{world_in};
 
-use crate::declaring::{FirstTouch, declaring, first_touch};
+use crate::declaring::{FirstTouch, declaring_in, first_touch};
 use crate::enter::{MOST_FRAMES, code_now};
 use crate::returns::FrameChange;
 use crate::shared::Shared;
@@ -207,7 +207,7 @@ impl Thread {
             (shared_by objects.old touched)) }
     {
         let new = NewObject {
-            class: declaring(world.view, construction.method),
+            class: declaring_in(world, construction.method),
             constructor: construction.method,
             next: construction.next,
             taken: construction.shape.takes().len(),
@@ -260,7 +260,7 @@ impl Thread {
             (declaring (V.meaning world.now.view) construction.now.method)
             (construct_made (world_in V.users V.meaning world.now) construction.now self.old)) }
     {
-        let owner = declaring(world.view, construction.method);
+        let owner = declaring_in(world, construction.method);
         match first_touch(world.alloc, world.view, &shared.touched, owner) {
             Err(_) => Err(Stop::Memory),
             Ok(None) => self.construct(world, &mut shared.objects, construction),
@@ -270,14 +270,18 @@ impl Thread {
 }
 
 /// Whether a method can be called on a new object: it has one, and the class that declares it is no value type.
-fn is_for_object<V: ModuleView>(view: &V, method: Token, shape: &MethodShape<'_>) -> bool
-    requires row { IsTrue (has_row (V.meaning view.now) method) }
+fn is_for_object<V: ModuleView>(
+    world: &World<'_, V>,
+    method: Token,
+    shape: &MethodShape<'_>,
+) -> bool
+    requires row { IsTrue (has_row (V.meaning world.now.view) method) }
     requires table { method.table ≡ method_def }
     ensures { result ≡ (shape.now.this
-        && not (is_value_type (cells_of (V.meaning view.now)) (declaring (V.meaning view.now) method))) }
+        && not (is_value_type (cells_of (V.meaning world.now.view)) (declaring (V.meaning world.now.view) method))) }
 {
-    let class = declaring(view, method);
-    shape.has_this() && !is_value_type(&Viewed { view }, class)
+    let class = declaring_in(world, method);
+    shape.has_this() && !is_value_type(&Viewed { view: world.view }, class)
 }
 
 impl Thread {
@@ -295,7 +299,7 @@ impl Thread {
             (new_object (world_in V.users V.meaning world.now) next method (shared_in shared.old) self.old) }
     {
         let shape = named_method(world.view, method)?;
-        if !is_for_object(world.view, method, &shape) {
+        if !is_for_object(world, method, &shape) {
             return Err(Stop::Trap(Trap::X2));
         }
         let construction = Construction {

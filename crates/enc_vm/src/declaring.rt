@@ -8,6 +8,7 @@ ghost use Rattle.enc_vm.specs.Calls.{call_touches, declaring};
 ghost use Rattle.enc_vm.specs.TouchSeen.{first_touch};
 
 use crate::touched::Touched;
+use crate::world::World;
 use enc_base::Token;
 use enc_machine_types::{find_type_constructor, is_constructor, is_static_method};
 use enc_plain::{CellView, ModuleView, Viewed};
@@ -24,6 +25,19 @@ pub(crate) fn declaring<V: ModuleView>(view: &V, method: Token) -> Token
     ensures row { IsTrue (has_row (V.meaning view.now) result) }
 {
     view.owner(method)
+}
+
+/// The same of a method of the module on which a step stands: it is kept.
+#[inline(always)]
+#[tactic(auto, using(crate::proofs::Declared::declared_steps))]
+pub(crate) fn declaring_in<V: ModuleView>(world: &World<'_, V>, method: Token) -> Token
+    requires row { IsTrue (has_row (V.meaning world.now.view) method) }
+    requires table { method.table ≡ method_def }
+    ensures owner { result ≡ declaring (V.meaning world.now.view) method }
+    ensures table { result.table ≡ type_def }
+    ensures row { IsTrue (has_row (V.meaning world.now.view) result) }
+{
+    world.dispatch.owner(world.view, method)
 }
 
 /// Whether a type is an interface (ECMA-335 II.23.1.15).

@@ -15,7 +15,7 @@ use crate::effect::Effect;
 use crate::returns::FrameChange;
 use crate::thread::Thread;
 use crate::world::World;
-use enc_frames::{FrameAct, ObjectAct, Stop, act_on_objects};
+use enc_frames::{FrameAct, IndexedModule, ObjectAct, Stop, act_on_objects};
 use enc_objects::Objects;
 use enc_opcodes::Op;
 use enc_plain::ModuleView;
@@ -23,18 +23,19 @@ use std::alloc::Global;
 
 impl Thread {
     /// What an instruction does to its frame alone.
+    #[inline(always)]
     pub(crate) fn act_on_frame<V: ModuleView>(
         &mut self,
-        alloc: Global,
-        view: &V,
+        world: &World<'_, V>,
         next: u32,
         act: FrameAct,
     ) -> Result<Effect, Stop>
         ensures { (users : ℕ → Option (List ℕ)) (methods : List (Option Version)) (s : Shared)
             → Performs result s s self.new self.old (framed s self.old
-            (frame_act (version_world users (V.meaning view.now) methods) next act self.old.top)) }
+            (frame_act (version_world users (V.meaning world.now.view) methods) next act self.old.top)) }
     {
-        match self.top.act(alloc, view, next, act) {
+        let module = IndexedModule::new(world.view, world.dispatch);
+        match self.top.act(world.alloc, &module, next, act) {
             Err(stop) => Err(stop),
             Ok(()) => Ok(Effect::Frames(FrameChange::Stays)),
         }
@@ -116,6 +117,7 @@ impl Thread {
 
 impl Thread {
     /// An instruction on two values.
+    #[inline(always)]
     pub(crate) fn on_two(&mut self, op: Op, next: u32) -> Result<Effect, Stop>
         ensures { (s : Shared) → Performs result s s self.new self.old
             (framed s self.old (on_upper_two op next self.old.top)) }
@@ -127,6 +129,7 @@ impl Thread {
     }
 
     /// An instruction on one value.
+    #[inline(always)]
     pub(crate) fn on_one(&mut self, op: Op, next: u32) -> Result<Effect, Stop>
         ensures { (s : Shared) → Performs result s s self.new self.old
             (framed s self.old (on_top op next self.old.top)) }

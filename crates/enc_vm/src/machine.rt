@@ -107,6 +107,7 @@ impl Machine {
     }
 
     /// A step of a task, whose frames hold versions of their methods.
+    #[inline(always)]
     fn step_version<V: ModuleView>(
         &mut self,
         world: &World<'_, V>,

@@ -27,6 +27,7 @@ use enc_plain::ModuleView;
 
 impl Thread {
     /// What an instruction does that is for something; behind it the frame goes on at an offset.
+    #[inline(always)]
     #[tactic(auto, unfolding(crate::specs::Step::act_on))]
     fn act<V: ModuleView>(
         &mut self,
@@ -39,7 +40,7 @@ impl Thread {
             (act_on (world_in V.users V.meaning world.now) next act (shared_in shared.old) self.old) }
     {
         match act {
-            Act::Frame(act) => self.act_on_frame(world.alloc, world.view, next, act),
+            Act::Frame(act) => self.act_on_frame(world, next, act),
             Act::Object(act) => self.act_on_objects(world, &mut shared.objects, next, act),
             Act::Return => self.return_one(world.view),
             Act::Call(method) => self.call_any(world, shared, next, method),
@@ -53,6 +54,7 @@ impl Thread {
     }
 
     /// What an instruction does. X2 where it is for nothing.
+    #[inline(always)]
     fn act_if_any<V: ModuleView>(
         &mut self,
         world: &World<'_, V>,
@@ -72,6 +74,7 @@ impl Thread {
 
 impl Thread {
     /// An instruction that stands alone.
+    #[inline(always)]
     fn perform_bare<V: ModuleView>(
         &mut self,
         world: &World<'_, V>,
@@ -126,6 +129,7 @@ impl Thread {
     }
 
     /// An instruction, whose end is where the next one begins.
+    #[inline(always)]
     #[tactic(auto, unfolding(crate::specs::Step::perform))]
     pub(crate) fn perform<V: ModuleView>(
         &mut self,

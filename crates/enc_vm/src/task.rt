@@ -51,6 +51,7 @@ struct Outcome {
 }
 
 /// What a step came to that made this of its task.
+#[inline(always)]
 fn came_to(line: Option<u32>, effect: Effect) -> Outcome
     ensures { (s : TheShared) (t : TheThread Version) →
         stepped line (effect_made effect s t) ≡ stepped_as result.state result.seen s t }
@@ -96,6 +97,7 @@ fn came_to(line: Option<u32>, effect: Effect) -> Outcome
 }
 
 /// What a flight's step made of the frames, as an instruction makes it.
+#[inline(always)]
 fn effect_of_flight(end: FlightEnd) -> Effect
     ensures { result ≡ effect_of_flight end }
 {
@@ -107,6 +109,7 @@ fn effect_of_flight(end: FlightEnd) -> Effect
 }
 
 /// What a step came to that trapped.
+#[inline(always)]
 fn trapped_at(line: Option<u32>, trap: Trap) -> Outcome
     ensures { (s : TheShared) (t : TheThread Version) →
         trapped_in line s t trap ≡ stepped_as result.state result.seen s t }
@@ -121,6 +124,7 @@ fn trapped_at(line: Option<u32>, trap: Trap) -> Outcome
 }
 
 /// What a step came to, by how it stands with the task behind it.
+#[inline(always)]
 fn step_end_of(state: TaskState) -> StepEnd
     ensures { result ≡ step_end_of state }
 {
@@ -133,6 +137,7 @@ fn step_end_of(state: TaskState) -> StepEnd
 
 impl Thread {
     /// The start line of the sequence point at which the innermost frame stands.
+    #[inline(always)]
     #[tactic(auto, unfolding(enc_frames::specs::Machine::version_world))]
     fn line(&self) -> Option<u32>
         ensures { (users : ℕ → Option (List ℕ)) (m : Module) (methods : List (Option Version))
@@ -155,6 +160,7 @@ impl Thread {
     }
 
     /// A step by the instruction.
+    #[inline(always)]
     fn step_instruction<V: ModuleView>(
         &mut self,
         world: &World<'_, V>,

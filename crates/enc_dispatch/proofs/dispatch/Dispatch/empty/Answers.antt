@@ -10,4 +10,5 @@ returns c = record {
   interfaces = c.new-6.ensures;
   heads = c.new-7.ensures.none;
   links = c.new-7.ensures.size;
+  locals = c.new-8.ensures.items;
 }

@@ -37,4 +37,6 @@ returns g c =
       links = c.in_ok-methods.ensures.links;
       buckets = heads_same (cells_of m) (head_over d.slots.heads c.methods_of.new.slots.heads) (λ key. either (latest c.methods_of.new.slots.entries.items (bucket_key key)) (stored_head d.slots.heads key)) (d.slots.next.items ++ c.methods_of.new.slots.next.items)
           (λ key. ap (λ o. either o (stored_head d.slots.heads key)) (c.in_ok-methods.ensures.entries (bucket_key key))) c.in_ok-methods.ensures.buckets;
+      locals_count = c.in_ok-locals_of.ensures.count;
+      locals = c.in_ok-locals_of.ensures.locals;
     })

@@ -18,8 +18,8 @@ returns-in-Ok-None g c =
     c.args.shared.now.objects c.args.shared.now.touched (call_touches (g.V.ModuleView.meaning c.args.world.now.view) c.args.call.now.method) None
     (subst (λ (v : _). call_touches (g.V.ModuleView.meaning v) c.args.call.now.method ≡ true) same (sym c.if-not-call_touches.ensures))
     (sym c.in-Ok-None.field-0-is ∙ c.in-Ok-None.ensures
-    ∙ ap (λ (t : Token). first_touch (g.V.ModuleView.meaning c.world.inside.view.now) t c.args.shared.now.touched) c.declaring-owner.ensures.owner
-    ∙ ap (λ (v : _). first_touch (g.V.ModuleView.meaning v) (declaring (g.V.ModuleView.meaning v) c.args.call.now.method) c.args.shared.now.touched) same))
+    ∙ ap (λ (t : Token). first_touch (g.V.ModuleView.meaning c.world.inside.view.now) t c.args.shared.now.touched) c.declaring_in-owner.ensures.owner
+    ∙ ap (λ (v : _). first_touch (g.V.ModuleView.meaning v) (declaring (g.V.ModuleView.meaning c.args.world.now.view) c.args.call.now.method) c.args.shared.now.touched) same))
     (c.call_with-in-Ok-None.ensures c.args.shared.now.touched)
 
 -- it is
@@ -34,6 +34,6 @@ returns-in-Ok-Some g c =
     (Some c.in-Ok-Some.first)
     (subst (λ (v : _). call_touches (g.V.ModuleView.meaning v) c.args.call.now.method ≡ true) same (sym c.if-not-call_touches.ensures))
     (sym c.in-Ok-Some.field-0-is ∙ c.in-Ok-Some.ensures
-    ∙ ap (λ (t : Token). first_touch (g.V.ModuleView.meaning c.world.inside.view.now) t c.args.shared.now.touched) c.declaring-owner.ensures.owner
-    ∙ ap (λ (v : _). first_touch (g.V.ModuleView.meaning v) (declaring (g.V.ModuleView.meaning v) c.args.call.now.method) c.args.shared.now.touched) same))
+    ∙ ap (λ (t : Token). first_touch (g.V.ModuleView.meaning c.world.inside.view.now) t c.args.shared.now.touched) c.declaring_in-owner.ensures.owner
+    ∙ ap (λ (v : _). first_touch (g.V.ModuleView.meaning v) (declaring (g.V.ModuleView.meaning c.args.world.now.view) c.args.call.now.method) c.args.shared.now.touched) same))
     c.call_first.ensures

@@ -17,8 +17,8 @@ returns-in-Ok-None g c =
     (construct_made (world_in g.V.ModuleView.users g.V.ModuleView.meaning c.args.world.now) c.args.construction.now c.args.self.now)
     c.args.shared.now.objects c.args.shared.now.touched None
     (sym c.in-Ok-None.field-0-is ∙ c.in-Ok-None.ensures
-    ∙ ap (λ (t : Token). first_touch (g.V.ModuleView.meaning c.world.inside.view.now) t c.args.shared.now.touched) c.declaring-owner.ensures.owner
-    ∙ ap (λ (v : _). first_touch (g.V.ModuleView.meaning v) (declaring (g.V.ModuleView.meaning v) c.args.construction.now.method)
+    ∙ ap (λ (t : Token). first_touch (g.V.ModuleView.meaning c.world.inside.view.now) t c.args.shared.now.touched) c.declaring_in-owner.ensures.owner
+    ∙ ap (λ (v : _). first_touch (g.V.ModuleView.meaning v) (declaring (g.V.ModuleView.meaning c.args.world.now.view) c.args.construction.now.method)
     c.args.shared.now.touched) same))
     (c.construct.ensures c.args.shared.now.touched)
 
@@ -32,7 +32,7 @@ returns-in-Ok-Some g c =
     (construct_made (world_in g.V.ModuleView.users g.V.ModuleView.meaning c.args.world.now) c.args.construction.now c.args.self.now)
     c.args.shared.now.objects c.args.shared.now.touched (Some c.in-Ok-Some.first)
     (sym c.in-Ok-Some.field-0-is ∙ c.in-Ok-Some.ensures
-    ∙ ap (λ (t : Token). first_touch (g.V.ModuleView.meaning c.world.inside.view.now) t c.args.shared.now.touched) c.declaring-owner.ensures.owner
-    ∙ ap (λ (v : _). first_touch (g.V.ModuleView.meaning v) (declaring (g.V.ModuleView.meaning v) c.args.construction.now.method)
+    ∙ ap (λ (t : Token). first_touch (g.V.ModuleView.meaning c.world.inside.view.now) t c.args.shared.now.touched) c.declaring_in-owner.ensures.owner
+    ∙ ap (λ (v : _). first_touch (g.V.ModuleView.meaning v) (declaring (g.V.ModuleView.meaning c.args.world.now.view) c.args.construction.now.method)
     c.args.shared.now.touched) same))
     c.construct_first.ensures
