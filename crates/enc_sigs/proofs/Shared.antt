@@ -11,6 +11,7 @@ use Rattle.enc_sigs.specs.declared.type_form.TypeForm.TheVariants as form
 use Rattle.enc_sigs.specs.declared.type_form.Numeral.{Numeral}
 use Rattle.enc_sigs.specs.declared.type_form.Numeral.TheVariants.{Size, Bound}
 use Rattle.enc_sigs.specs.Grammar.{byte_in, numeral_in, token_in, is_coded, form_of, calling_in, begins}
+use Rattle.enc_base.specs.Numbers.{is_empty}
 use Rattle.enc_base.specs.Readers.{Reader, number_in}
 use Rattle.enc_sigs.specs.Agree.{tokens_agree}
 use Rattle.enc_sigs.specs.Walk.{Walk, paired, both_numbers, alike, alike_alone, onward, upon_alike, token_walk, many_walk, counted_walk, numerals_walk, array_walk, modified_walk, instance_walk, marked_walk, params_walk, parts_walk, calling_walk, method_walk, accessed_walk, formed_walk, elem_walk, type_walk, front_walk, both_end}
@@ -157,7 +158,7 @@ marked_by : (one : Walk) (s : Shaping) (n : ℕ) (h : Mix) (a b : List ℕ) (x :
 unfolding params_shape marked_shape
 marked_by one s n h a b x false step first second e = absurd (cc)
 marked_by one s n h a b x true step first second e =
-    let f = onward_shares one (many_walk one n) s (many_shape s n) step (many_shares one s n step) h (drop 1 a) (drop 1 b) x e in
+    let f = onward_shares one (many_walk one n) s (many_shape s n) step (many_shares one s n step) (mixed h 0x41) (drop 1 a) (drop 1 b) x e in
     (f.0, rw first f.1, rw second f.2)
 
 plain_by : (one : Walk) (s : Shaping) (n : ℕ) (h : Mix) (a b : List ℕ) (x : List ℕ × List ℕ) → IsPlainShape s → begins 0x41 a ≡ false → IsShared (in_turn s (params_shape s n) h a) (in_turn s (params_shape s n) h b) x → IsShared (params_shape s (suc n) h a) (params_shape s (suc n) h b) x
@@ -247,10 +248,17 @@ front_shares same key Property keys = tagged_shares (λ b. b == 0x08 || b == 0x2
 front_shares same key TypeSpec keys = type_shares same key keys
 front_shares same key MethodSpec keys = tagged_shares (λ b. b == 0x0A) (counted_walk (type_walk same)) (counted_shape (type_shape key)) (counted_shares (type_walk same) (type_shape key) (type_shares same key keys))
 
+-- where both end, what was mixed is the shape of both
+read_whole : (k : Mix) (x : List ℕ × List ℕ) (a b : List ℕ) → (is_empty x.0 && is_empty x.1) ≡ true → mixed_of a (Some (k, x.0)) ≡ mixed_of b (Some (k, x.1))
+read_whole k x a b e = rw (both_left (is_empty x.0) (is_empty x.1) e, both_right (is_empty x.0) (is_empty x.1) e) refl
+
 end_by : (same : Token → Token → Bool) (key : Token → Mix) (kind : SigKind) (a b : List ℕ) (o : Option (List ℕ × List ℕ)) → HaveOneKey same key → front_walk same kind a b ≡ o → both_end o ≡ true → sig_shape key kind a ≡ sig_shape key kind b
 unfolding sig_shape
 end_by same key kind a b None keys is e = absurd (cc)
-end_by same key kind a b (Some x) keys is e = let f = front_shares same key kind keys (mix_of 0) a b x is in ap mixed_of f.1 ∙ sym (ap mixed_of f.2)
+end_by same key kind a b (Some x) keys is e =
+    let f = front_shares same key kind keys (mix_of 0) a b x is in
+    let ends = read_whole f.0 x a b e in
+    ap (mixed_of a) f.1 ∙ ends ∙ sym (ap (mixed_of b) f.2)
 
 pub alike_have_one_shape : AlikeHaveOneShape
 alike_have_one_shape same key kind a b keys e = end_by same key kind a b (front_walk same kind a b) keys refl (sigs_agreed same kind a b ∙ e)

@@ -41,6 +41,10 @@ mixed_words mix bytes (suc n) = mixed (mixed_words mix bytes n) (from_le_bytes w
 unfoldable pub mixed_bytes : Mix → List ℕ → Mix
 mixed_bytes mix bytes = mixed_words mix bytes (length bytes / 8 + 1)
 
+-- the length of some bytes and all of them mixed in
+unfoldable pub mixed_whole : Mix → List ℕ → Mix
+mixed_whole mix bytes = mixed_bytes (mixed mix (length bytes)) bytes
+
 -- the length of some bytes and so many at either end mixed in, so that long texts that share their bytes cost no
 -- more than short ones
 unfoldable pub mixed_ends : ℕ → Mix → List ℕ → Mix

@@ -10,9 +10,10 @@ use Rattle.enc_sigs.specs.declared.type_form.TypeForm.TheVariants as form
 use Rattle.enc_sigs.specs.declared.type_form.Numeral.{Numeral}
 use Rattle.enc_sigs.specs.declared.type_form.Numeral.TheVariants.{Size, Bound}
 use Rattle.enc_sigs.specs.Grammar.{byte_in, numeral_in, token_in, is_coded, form_of, calling_in, begins}
+use Rattle.enc_base.specs.Numbers.{is_empty}
 use Rattle.enc_base.specs.Readers.{Reader, number_in}
 use Rattle.enc_sigs.specs.Agree.{sigs_agree}
-use Rattle.enc_sigs.specs.Mix.{mix_of, mixed, mixed_both}
+use Rattle.enc_sigs.specs.Mix.{mix_of, mixed, mixed_both, mixed_whole}
 use Rattle.enc_sigs.specs.declared.mix.Mix.{Mix}
 
 -- what mixes something at the front in, and gives what is behind it too
@@ -61,9 +62,9 @@ unfoldable pub instance_shape : (Token → Mix) → Shaping → Shaping
 instance_shape key one = in_turn (number_shape (byte_in (λ c. c == 0x11 || c == 0x12)))
     (in_turn (token_shape key) (counted_shape one))
 
--- the parameter behind a sentinel, and so many more
+-- a sentinel, the parameter behind it, and so many more
 unfoldable pub marked_shape : Shaping → ℕ → Shaping
-marked_shape one n = in_turn one (many_shape one n)
+marked_shape one n h bytes = in_turn one (many_shape one n) (mixed h 0x41) bytes
 
 -- so many parameters
 unfoldable pub params_shape : Shaping → ℕ → Shaping
@@ -119,14 +120,18 @@ front_shape key Property = in_turn (number_shape (byte_in (λ b. b == 0x08 || b 
 front_shape key TypeSpec = type_shape key
 front_shape key MethodSpec = in_turn (number_shape (byte_in (λ b. b == 0x0A))) (counted_shape (type_shape key))
 
--- what is mixed in the end, where something is read
-abbrev pub mixed_of : Option (Mix × List ℕ) → Mix
-mixed_of None = mix_of 0
-mixed_of (Some x) = x.0
+-- of bytes that are no signature: they are alike themselves alone
+unfoldable pub raw_shape : List ℕ → Mix
+raw_shape bytes = mixed_whole (mix_of 1) bytes
 
--- the shape of a signature of this kind, by the keys of its tokens; what stands behind it isn't looked at
+-- what is mixed in the end, where all bytes are read
+abbrev pub mixed_of : List ℕ → Option (Mix × List ℕ) → Mix
+mixed_of bytes None = raw_shape bytes
+mixed_of bytes (Some x) = if is_empty x.1 then x.0 else raw_shape bytes
+
+-- the shape of a signature of this kind, by the keys of its tokens
 unfoldable pub sig_shape : (Token → Mix) → SigKind → List ℕ → Mix
-sig_shape key kind bytes = mixed_of (front_shape key kind (mix_of 0) bytes)
+sig_shape key kind bytes = mixed_of bytes (front_shape key kind (mix_of 0) bytes)
 
 -- a call answers what the function says
 abbrev pub GivesKeys : (Token → Mix → Type 0) → (Token → Mix) → Type 0

@@ -25,7 +25,7 @@ pub use held::behind_sentinel;
 pub use judge::{is_sig, type_front};
 pub use kind::{SigFault, SigKind};
 pub use laws::{depth_law, moved_laws, signature_laws};
-pub use mix::{Mix, finished, mix_of, mixed, mixed_both, mixed_ends};
+pub use mix::{Mix, finished, mix_of, mixed, mixed_both, mixed_ends, mixed_whole};
 pub use number::{calling, coded_token};
 pub use shape::{shape_law, sig_shape};
 pub use sig::Sig;

@@ -2,7 +2,7 @@
 //! known to two things of one number but to try some 2^64.
 ghost use Rattle.std.specs.Prelude.{◌≡◌, ◌≤◌, length, drop, slice_index};
 ghost use Rattle.std.specs.Int.{w64, from_le_bytes};
-ghost use Rattle.enc_sigs.specs.Mix.{mix_of, round, rounds, added, mixed, mixed_both, mixed_bytes, mixed_ends, finished};
+ghost use Rattle.enc_sigs.specs.Mix.{mix_of, round, rounds, added, mixed, mixed_both, mixed_bytes, mixed_whole, mixed_ends, finished};
 
 /// Two words for all that was mixed.
 #[derive(Clone, Copy, Debug, PartialEq, Eq)]
@@ -127,6 +127,14 @@ fn mixed_bytes(mix: Mix, bytes: &[u8]) -> Mix
         state = mixed(state, word_at(bytes, 8 * k));
     }
     state
+}
+
+/// The length of some bytes and all of them mixed in.
+#[tactic(auto, unfolding(crate::specs::Mix::mixed_whole))]
+pub fn mixed_whole(mix: Mix, bytes: &[u8]) -> Mix
+    ensures { result ≡ mixed_whole mix bytes.now }
+{
+    mixed_bytes(mixed(mix, bytes.len() as u64), bytes)
 }
 
 /// The length of some bytes and so many at either end mixed in.

@@ -5,11 +5,11 @@ ghost use Rattle.enc_base.specs.Readers.{number_in};
 ghost use Rattle.enc_sigs.specs.Grammar.{byte_in, numeral_in};
 ghost use Rattle.enc_sigs.specs.Mix.{mix_of};
 ghost use Rattle.enc_sigs.specs.declared.mix.Mix.{Mix as TheMix};
-ghost use Rattle.enc_sigs.specs.Shape.{number_shape, token_shape, many_shape, counted_shape, numerals_shape, array_shape, modified_shape, instance_shape, marked_shape, params_shape, parts_shape, calling_shape, method_shape, formed_shape, elem_shape, type_shape, accessed_shape, front_shape, mixed_of, sig_shape, GivesKeys, AlikeHaveOneShape};
+ghost use Rattle.enc_sigs.specs.Shape.{number_shape, token_shape, many_shape, counted_shape, numerals_shape, array_shape, modified_shape, instance_shape, marked_shape, params_shape, parts_shape, calling_shape, method_shape, formed_shape, elem_shape, type_shape, accessed_shape, front_shape, raw_shape, mixed_of, sig_shape, GivesKeys, AlikeHaveOneShape};
 
 use crate::held::behind_sentinel;
 use crate::kind::SigKind;
-use crate::mix::{Mix, mix_of, mixed, mixed_both};
+use crate::mix::{Mix, mix_of, mixed, mixed_both, mixed_whole};
 use crate::number::{calling, coded_token, form_by, numeral};
 use crate::type_form::{Numeral, TypeForm};
 use enc_base::{Token, unsigned_front};
@@ -267,7 +267,7 @@ fn params_shape<'a, F: Fn(Token) -> Mix>(
     Some((mix, rest))
 }
 
-/// The parameter behind a sentinel, which is left out, and so many more.
+/// A sentinel, the parameter behind it and so many more.
 #[cycle(shaper)]
 #[tactic(auto, unfolding(crate::specs::Shape::marked_shape))]
 fn marked_shape<'a, F: Fn(Token) -> Mix>(
@@ -281,7 +281,7 @@ fn marked_shape<'a, F: Fn(Token) -> Mix>(
     ensures { (keys : Token → TheMix) → GivesKeys (F.post key.now) keys
         → option_map (λ x. (x.0, x.1.now)) result ≡ marked_shape (elem_shape keys depth) more mix bytes.now }
 {
-    let (mix, rest) = elem_shape(depth, mix, bytes, key)?;
+    let (mix, rest) = elem_shape(depth, mixed(mix, 0x41), bytes, key)?;
     many_shape(more, depth, mix, rest, key)
 }
 
@@ -412,25 +412,38 @@ fn front_shape<'a, F: Fn(Token) -> Mix>(
     }
 }
 
-/// What was mixed, where something was read.
-fn mixed_of(read: Option<(Mix, &[u8])>) -> Mix
-    ensures { result ≡ mixed_of (option_map (λ x. (x.0, x.1.now)) read.entry) }
+/// The shape of bytes that are no signature.
+#[tactic(auto, unfolding(crate::specs::Shape::raw_shape))]
+fn raw_shape(bytes: &[u8]) -> Mix
+    ensures { result ≡ raw_shape bytes.now }
+{
+    mixed_whole(mix_of(1), bytes)
+}
+
+/// What was mixed, where all bytes were read.
+fn mixed_of(bytes: &[u8], read: Option<(Mix, &[u8])>) -> Mix
+    ensures { result ≡ mixed_of bytes.now (option_map (λ x. (x.0, x.1.now)) read.entry) }
 {
     match read {
-        Some((mix, _)) => mix,
-        None => mix_of(0),
+        Some((mix, rest)) => {
+            if rest.is_empty() {
+                return mix;
+            }
+            raw_shape(bytes)
+        }
+        None => raw_shape(bytes),
     }
 }
 
 /// The shape of a signature of this kind: a mix of its bytes, but of its tokens' keys in place of
-/// its tokens. Signatures that are equal but for tokens of equal keys have one shape. It takes no
-/// memory.
+/// its tokens. Signatures that are equal but for tokens of equal keys have one shape. The shape of
+/// bytes that are no signature is a mix of them all. It takes no memory.
 #[tactic(auto, unfolding(crate::specs::Shape::sig_shape))]
 pub fn sig_shape<F: Fn(Token) -> Mix>(kind: SigKind, bytes: &[u8], key: F) -> Mix
     requires { F.IsAlwaysCallable key }
     ensures { (keys : Token → TheMix) → GivesKeys (F.post key) keys → result ≡ sig_shape keys kind bytes.now }
 {
-    mixed_of(front_shape(kind, mix_of(0), bytes, &key))
+    mixed_of(bytes, front_shape(kind, mix_of(0), bytes, &key))
 }
 
 /// Signatures that are equal but for tokens of equal keys have one shape.
