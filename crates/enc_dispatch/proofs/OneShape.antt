@@ -151,7 +151,7 @@ more_sees r v s t u w one two = giving_sees (λ (p : Tree × List Tree). p.0 ∷
 
 marked_sees : (r : Reader Tree) (s t : Shaping) (n : ℕ) → Sees r s t → Sees (marked_in r n) (marked_shape s n) (marked_shape t n)
 unfolding marked_in marked_shape
-marked_sees r s t n all = more_sees (wrapped_in r 0x41) (many r n) s t (many_shape s n) (many_shape t n) (wrapped_sees r s t 0x41 all) (many_sees r s t n all)
+marked_sees r s t n all bytes p e h = more_sees (wrapped_in r 0x41) (many r n) s t (many_shape s n) (many_shape t n) (wrapped_sees r s t 0x41 all) (many_sees r s t n all) bytes p e (mixed h 0x41)
 
 by_test : (b : Bool) (r v : Reader (List Tree)) (s t u w : Shaping) (x y : List ℕ) (p : List Tree × List ℕ) (h : Mix) → Sees r s t → Sees v u w → (if b then r x else v y) ≡ Some p → AreOne (if b then s h x else u h y) (if b then t h x else w h y) p.1
 by_test true r v s t u w x y p h one two e = one x p e h
@@ -225,15 +225,15 @@ spec_front : (good : ℕ → Bool) (key new : Token → Mix) → AgreeOn good ke
 unfolding front_in front_shape
 spec_front good key new agree = giving_sees {B = SigTree} (λ (t : Tree). record { form = TypeSpec; kind = 0; generics = 0; parts = t ∷ [] }) (type_in good) (type_shape key) (type_shape new) (type_sees good key new agree)
 
-one_mix : (o u : Option (Mix × List ℕ)) (rest : List ℕ) → AreOne o u rest → mixed_of o ≡ mixed_of u
-one_mix o u rest w = ap mixed_of (w.1 ∙ sym w.2)
+one_mix : (bytes : List ℕ) (o u : Option (Mix × List ℕ)) (rest : List ℕ) → AreOne o u rest → mixed_of bytes o ≡ mixed_of bytes u
+one_mix bytes o u rest w = ap (mixed_of bytes) (w.1 ∙ sym w.2)
 
 pub method_shape_same : (good : ℕ → Bool) (key new : Token → Mix) (bytes : List ℕ) (s : SigTree) → AgreeOn good key new → sig_in good Method bytes ≡ Some s → sig_shape key Method bytes ≡ sig_shape new Method bytes
 unfolding sig_in sig_shape
 method_shape_same good key new bytes s agree e =
-    one_mix (front_shape key Method (mix_of 0) bytes) (front_shape new Method (mix_of 0) bytes) [] (method_front good key new agree bytes (s, []) (whole_read (front_in good Method bytes) s e) (mix_of 0))
+    one_mix bytes (front_shape key Method (mix_of 0) bytes) (front_shape new Method (mix_of 0) bytes) [] (method_front good key new agree bytes (s, []) (whole_read (front_in good Method bytes) s e) (mix_of 0))
 
 pub spec_shape_same : (good : ℕ → Bool) (key new : Token → Mix) (bytes : List ℕ) (s : SigTree) → AgreeOn good key new → sig_in good TypeSpec bytes ≡ Some s → sig_shape key TypeSpec bytes ≡ sig_shape new TypeSpec bytes
 unfolding sig_in sig_shape
 spec_shape_same good key new bytes s agree e =
-    one_mix (front_shape key TypeSpec (mix_of 0) bytes) (front_shape new TypeSpec (mix_of 0) bytes) [] (spec_front good key new agree bytes (s, []) (whole_read (front_in good TypeSpec bytes) s e) (mix_of 0))
+    one_mix bytes (front_shape key TypeSpec (mix_of 0) bytes) (front_shape new TypeSpec (mix_of 0) bytes) [] (spec_front good key new agree bytes (s, []) (whole_read (front_in good TypeSpec bytes) s e) (mix_of 0))
