@@ -7,7 +7,8 @@ use Rattle.enc_base.specs.Token.{nil, is_token}
 use Rattle.enc_base.specs.declared.token.Token.{Token}
 use Rattle.enc_plain.specs.Alike.{are_rows, type_refs_alike, assembly_refs_alike, module_refs_alike, refs_alike, type_specs_alike, tokens_alike, signatures_alike}
 use Rattle.enc_plain.specs.Cell.{Cell, number, text, blob, guid, refer, body, field}
-use Rattle.enc_plain.specs.Keys.{token_key, names_key, type_ref_key, scoped_key, assembly_ref_key, module_ref_key, ref_key, spec_shape, spec_key, key_of, signature_key}
+use Rattle.enc_plain.specs.Keys.{token_key, names_key, version_key, assembly_ref_key, module_ref_key, row_key, own_key, scope_of, near, joined, onward, outer, inner, end_key, ended, ref_key, inner_key, spec_shape, spec_key, key_of, signature_key}
+use Rattle.enc_plain.specs.declared.near.Near.{Near}
 use Rattle.enc_plain.specs.Module.{Module, has_row, cells_of, cell_of}
 use Rattle.enc_plain.specs.Rows.{Rows, number_of_cell, bytes_of_cell, token_of_cell, number_at, bytes_at, token_at}
 use Rattle.enc_plain.specs.Signatures.{kind_in_table, signature_column, is_signature}
@@ -292,14 +293,17 @@ signatures_same m n a b sound stay na nb =
     ap (λ t. bytes_eq a b || t) (sigs_same m Method (tokens_alike (cells_of m)) (tokens_alike (cells_of n)) a b (tokens_same m n sound stay) na nb)
 
 -- keys
-scoped_by : (r s : Rows) (named : Bool) (k l : Mix) (a : Token) → r a ≡ s a → k ≡ l → scoped_key r named k a ≡ scoped_key s named l a
-unfolding scoped_key type_ref_key names_key
-scoped_by r s true k l a e same = rw (bytes_by r s a 1 e, bytes_by r s a 2 e, same) refl
-scoped_by r s false k l a e same = rw same refl
+names_by : (r s : Rows) (a : Token) → r a ≡ s a → names_key r a ≡ names_key s a
+unfolding names_key
+names_by r s a e = rw (bytes_by r s a 1 e, bytes_by r s a 2 e) refl
+
+version_by : (r s : Rows) (a : Token) → r a ≡ s a → version_key r a ≡ version_key s a
+unfolding version_key
+version_by r s a e = rw (number_by r s a 0 e, number_by r s a 1 e, number_by r s a 2 e, number_by r s a 3 e, number_by r s a 4 e) refl
 
 assembly_by : (r s : Rows) (a : Token) → r a ≡ s a → assembly_ref_key r a ≡ assembly_ref_key s a
 unfolding assembly_ref_key
-assembly_by r s a e = rw (bytes_by r s a 6 e) refl
+assembly_by r s a e = rw (version_by r s a e, bytes_by r s a 5 e, bytes_by r s a 6 e, bytes_by r s a 7 e, bytes_by r s a 8 e) refl
 
 module_by : (r s : Rows) (a : Token) → r a ≡ s a → module_ref_key r a ≡ module_ref_key s a
 unfolding module_ref_key
@@ -308,37 +312,91 @@ module_by r s a e = rw (bytes_by r s a 0 e) refl
 abbrev SameKey : Module → Module → (Rows → Token → Mix) → Type 0
 SameKey m n key = (t : Token) → Known m t → key (cells_of n) t ≡ key (cells_of m) t
 
-abbrev key_by : Rows → ℕ → Token → Bool → Bool → Bool → Mix
-key_by rows d t x y z = if x then scoped_key rows (nat_lt 96 (suc d)) (ref_key rows d (token_at rows t 0)) t else if y then assembly_ref_key rows t else if z then module_ref_key rows t else token_key t
+own_by : (r s : Rows) (t : Token) → r t ≡ s t → own_key r t ≡ own_key s t
+unfolding own_key row_key
+own_by r s t e = rw (e, names_by r s t e, assembly_by r s t e, module_by r s t e) refl
 
-key_by_tests : (m n : Module) (d : ℕ) (t : Token) (x y z : Bool) → IsSound m → RefsStay m n → SameKey m n (λ rows. ref_key rows d) → Known m t → (t.table == 0x01) ≡ x → (t.table == 0x23) ≡ y → (t.table == 0x1A) ≡ z → key_by (cells_of n) d t x y z ≡ key_by (cells_of m) d t x y z
-key_by_tests m n d t true y z sound stay step known ex ey ez =
-    let table = eq_of t.table 0x01 ex in
-    let e = stays m n 0x01 t stay known table refl refl in
-    let scope = scope_known m t sound (there_by m 0x01 t known table refl) table in
-    scoped_by (cells_of n) (cells_of m) (nat_lt 96 (suc d)) (ref_key (cells_of n) d (token_at (cells_of n) t 0)) (ref_key (cells_of m) d (token_at (cells_of m) t 0)) t e
-    (ap (ref_key (cells_of n) d) (token_by (cells_of n) (cells_of m) t 0 e) ∙ step (token_at (cells_of m) t 0) scope)
-key_by_tests m n d t false true z sound stay step known ex ey ez = assembly_by (cells_of n) (cells_of m) t (stays m n 0x23 t stay known (eq_of t.table 0x23 ey) refl refl)
-key_by_tests m n d t false false true sound stay step known ex ey ez = module_by (cells_of n) (cells_of m) t (stays m n 0x1A t stay known (eq_of t.table 0x1A ez) refl refl)
-key_by_tests m n d t false false false sound stay step known ex ey ez = refl
+one_way : (b : Bool) (k : Mix) → (if b then k else k) ≡ k
+one_way true k = refl
+one_way false k = refl
 
-ref_key_same : (m n : Module) (d : ℕ) → IsSound m → RefsStay m n → SameKey m n (λ rows. ref_key rows d)
-unfolding ref_key
-ref_key_same m n zero sound stay t known = refl
-ref_key_same m n (suc d) sound stay t known = key_by_tests m n d t (t.table == 0x01) (t.table == 0x23) (t.table == 0x1A) sound stay (ref_key_same m n d sound stay) known refl refl refl
+own_other : (r : Rows) (t : Token) → (t.table == 0x01) ≡ false → (t.table == 0x23) ≡ false → (t.table == 0x1A) ≡ false → own_key r t ≡ token_key t
+unfolding own_key row_key
+own_other r t ex ey ez = rw (ex, ey, ez) (one_way (is_some (r t)) (token_key t))
+
+own_by_tests : (m n : Module) (t : Token) (x y z : Bool) → RefsStay m n → Known m t → (t.table == 0x01) ≡ x → (t.table == 0x23) ≡ y → (t.table == 0x1A) ≡ z → own_key (cells_of n) t ≡ own_key (cells_of m) t
+own_by_tests m n t true y z stay known ex ey ez = own_by (cells_of n) (cells_of m) t (stays m n 0x01 t stay known (eq_of t.table 0x01 ex) refl refl)
+own_by_tests m n t false true z stay known ex ey ez = own_by (cells_of n) (cells_of m) t (stays m n 0x23 t stay known (eq_of t.table 0x23 ey) refl refl)
+own_by_tests m n t false false true stay known ex ey ez = own_by (cells_of n) (cells_of m) t (stays m n 0x1A t stay known (eq_of t.table 0x1A ez) refl refl)
+own_by_tests m n t false false false stay known ex ey ez = own_other (cells_of n) t ex ey ez ∙ sym (own_other (cells_of m) t ex ey ez)
+
+own_same : (m n : Module) → RefsStay m n → SameKey m n own_key
+own_same m n stay t known = own_by_tests m n t (t.table == 0x01) (t.table == 0x23) (t.table == 0x1A) stay known refl refl refl
+
+-- the keys of some scopes are the same, and what is behind them is known
+record AreSameNear (m : Module) (x y : Near) : Type 0 where
+  pub same : x ≡ y
+  pub known : Known m y.end
+
+scope_same : (m n : Module) (t : Token) (x : Bool) → IsSound m → RefsStay m n → Known m t → (t.table == 0x01) ≡ x → (scope_of (cells_of n) t ≡ scope_of (cells_of m) t) × Known m (scope_of (cells_of m) t)
+unfolding scope_of
+scope_same m n t true sound stay known e =
+    let table = eq_of t.table 0x01 e in
+    rw e (token_by (cells_of n) (cells_of m) t 0 (stays m n 0x01 t stay known table refl refl), scope_known m t sound (there_by m 0x01 t known table refl) table)
+scope_same m n t false sound stay known e = rw e (refl, known)
+
+near_same : (m n : Module) (k : ℕ) (t : Token) → IsSound m → RefsStay m n → Known m t → AreSameNear m (near (cells_of n) k t) (near (cells_of m) k t)
+unfolding near
+near_same m n zero t sound stay known =
+    let scope = scope_same m n t (t.table == 0x01) sound stay known refl in
+    record { same = rw (own_same m n stay t known, scope.0) refl; known = scope.1 }
+near_same m n (suc k) t sound stay known = onward_same m n k (near (cells_of n) k t) (near (cells_of m) k t) sound stay (near_same m n k t sound stay known) (λ u h. near_same m n k u sound stay h)
+  where
+    onward_same : (m n : Module) (k : ℕ) (x y : Near) → IsSound m → RefsStay m n → AreSameNear m x y → ((u : Token) → Known m u → AreSameNear m (near (cells_of n) k u) (near (cells_of m) k u)) → AreSameNear m (onward (cells_of n) x k) (onward (cells_of m) y k)
+    onward_same m n k x y sound stay h step = let next = step y.end h.known in record { same = rw (h.same, next.same) refl; known = next.known }
+
+onward_stays : (m n : Module) (k : ℕ) (x y : Near) → IsSound m → RefsStay m n → AreSameNear m x y → AreSameNear m (onward (cells_of n) x k) (onward (cells_of m) y k)
+onward_stays m n k x y sound stay h = let next = near_same m n k y.end sound stay h.known in record { same = rw (h.same, next.same) refl; known = next.known }
+
+end_same : (m n : Module) → RefsStay m n → SameKey m n end_key
+unfolding end_key
+end_same m n stay t known = rw (own_same m n stay t known) refl
+
+ended_same : (m n : Module) (x y : Near) → RefsStay m n → AreSameNear m x y → ended (cells_of n) x ≡ ended (cells_of m) y
+ended_same m n x y stay h = rw (h.same, end_same m n stay y.end h.known) refl
+
+ref_key_same : (m n : Module) → IsSound m → RefsStay m n → SameKey m n ref_key
+unfolding ref_key outer
+ref_key_same m n sound stay t known =
+    let x = near_same m n 6 t sound stay known in
+    let y = onward_stays m n 5 (near (cells_of n) 6 t) (near (cells_of m) 6 t) sound stay x in
+    let z = onward_stays m n 2 (onward (cells_of n) (near (cells_of n) 6 t) 5) (onward (cells_of m) (near (cells_of m) 6 t) 5) sound stay y in
+    rw (ended_same m n (outer (cells_of n) t) (outer (cells_of m) t) stay z, own_same m n stay t known) refl
+
+inner_key_same : (m n : Module) → IsSound m → RefsStay m n → SameKey m n inner_key
+unfolding inner_key inner
+inner_key_same m n sound stay t known =
+    let x = near_same m n 6 t sound stay known in
+    let y = onward_stays m n 5 (near (cells_of n) 6 t) (near (cells_of m) 6 t) sound stay x in
+    let z = onward_stays m n 1 (onward (cells_of n) (near (cells_of n) 6 t) 5) (onward (cells_of m) (near (cells_of m) 6 t) 5) sound stay y in
+    let w = onward_stays m n 0 (onward (cells_of n) (onward (cells_of n) (near (cells_of n) 6 t) 5) 1) (onward (cells_of m) (onward (cells_of m) (near (cells_of m) 6 t) 5) 1) sound stay z in
+    rw (ended_same m n (inner (cells_of n) t) (inner (cells_of m) t) stay w, own_same m n stay t known) refl
+
+spec_there : (m n : Module) (t : Token) → IsSound m → RefsStay m n → Known m t → t.table ≡ 0x1B → spec_key (cells_of n) t ≡ spec_key (cells_of m) t
+unfolding spec_key spec_shape
+spec_there m n t sound stay known table =
+    let row = stays m n 0x1B t stay known table refl refl in
+    let named = spec_sound m t sound (there_by m 0x1B t known table refl) table in
+    rw (row, bytes_by (cells_of n) (cells_of m) t 0 row, named.shape (inner_key (cells_of n)) (inner_key (cells_of m)) (inner_key_same m n sound stay)) refl
 
 key_same : (m n : Module) → IsSound m → RefsStay m n → SameKey m n key_of
-unfolding key_of spec_key spec_shape
+unfolding key_of
 key_same m n sound stay t known = by_test (t.table == 0x1B) refl
   where
     by_test : (x : Bool) → (t.table == 0x1B) ≡ x
-        → (if x then sig_shape (ref_key (cells_of n) 100) TypeSpec (bytes_at (cells_of n) t 0) else ref_key (cells_of n) 100 t) ≡ (if x then sig_shape (ref_key (cells_of m) 100) TypeSpec (bytes_at (cells_of m) t 0) else ref_key (cells_of m) 100 t)
-    by_test true e =
-        let table = eq_of t.table 0x1B e in
-        let named = spec_sound m t sound (there_by m 0x1B t known table refl) table in
-        ap (sig_shape (ref_key (cells_of n) 100) TypeSpec) (bytes_by (cells_of n) (cells_of m) t 0 (stays m n 0x1B t stay known table refl refl))
-        ∙ named.shape (ref_key (cells_of n) 100) (ref_key (cells_of m) 100) (ref_key_same m n 100 sound stay)
-    by_test false e = ref_key_same m n 100 sound stay t known
+        → (if x then spec_key (cells_of n) t else ref_key (cells_of n) t) ≡ (if x then spec_key (cells_of m) t else ref_key (cells_of m) t)
+    by_test true e = spec_there m n t sound stay known (eq_of t.table 0x1B e)
+    by_test false e = ref_key_same m n sound stay t known
 
 pub signature_key_same : (m n : Module) (a : List ℕ) → IsSound m → RefsStay m n → IsNamed m Method a → signature_key (cells_of n) 0x06 a ≡ signature_key (cells_of m) 0x06 a
 unfolding signature_key kind_in_table

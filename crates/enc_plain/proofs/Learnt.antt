@@ -11,8 +11,8 @@ use Rattle.enc_key_map.specs.Index.{value_at, entry_key, value_of, latest_one, e
 use Rattle.enc_sigs.specs.declared.mix.Mix.{Mix}
 use Rattle.enc_sigs.proofs.Shared.{both_left, both_right}
 use Rattle.enc_plain.specs.Rows.{Rows}
-use Rattle.enc_plain.specs.Keys.{token_key, names_key, ref_key, spec_shape, key_of, signature_key, AreMixes, AreKeys, AreNames, AreOfBlobs, AreSignatureKeys, AreSpecShapes}
-use Rattle.enc_plain.proofs.OneKey.{key_other}
+use Rattle.enc_plain.specs.Keys.{near, spec_shape, key_of, signature_key, AreMixes, AreKeys, AreNear, AreOfBlobs, AreSignatureKeys, AreSpecShapes}
+use Rattle.enc_plain.specs.declared.near.Near.{Near}
 
 none_given : (mix : Token → Mix) (index : Index Mix) → ((q : Key) → value_at index q ≡ None) → AreMixes mix index
 none_given mix index none q k e = absurd_none (sym (none q) ∙ e)
@@ -38,14 +38,29 @@ more_given mix old new e t v kept key place value puts q k is =
 pub none_learnt : (rows : Rows) (index : Index Mix) → ((q : Key) → value_at index q ≡ None) → AreKeys rows index
 none_learnt rows index none = none_given (key_of rows) index none
 
-pub no_names : (rows : Rows) (index : Index Mix) → ((q : Key) → value_at index q ≡ None) → AreNames rows index
-no_names rows index none = none_given (names_key rows) index none
-
 pub more_learnt : (rows : Rows) (old new : Index Mix) (e : KeyEntry Mix) (t : Token) (v : Mix) → AreKeys rows old → v ≡ key_of rows t → entry_key e ≡ record { table = t.table; row = t.row; place = 0 } → value_of e ≡ v → ((q : Key) → value_at new q ≡ either (latest_one e q) (value_at old q)) → AreKeys rows new
 more_learnt rows old new e t v kept key place value puts = more_given (key_of rows) old new e t v kept key place value puts
 
-pub more_names : (rows : Rows) (old new : Index Mix) (e : KeyEntry Mix) (t : Token) (v : Mix) → AreNames rows old → v ≡ names_key rows t → entry_key e ≡ record { table = t.table; row = t.row; place = 0 } → value_of e ≡ v → ((q : Key) → value_at new q ≡ either (latest_one e q) (value_at old q)) → AreNames rows new
-more_names rows old new e t v kept key place value puts = more_given (names_key rows) old new e t v kept key place value puts
+pub none_near : (rows : Rows) (index : Index Near) → ((q : Key) → value_at index q ≡ None) → AreNear rows index
+none_near rows index none q k e = absurd_none (sym (none q) ∙ e)
+  where
+    absurd_none : None ≡ Some k → k ≡ near rows q.place (record { table = q.table; row = q.row })
+    absurd_none e = absurd cc
+
+near_test : (rows : Rows) (q key : Key) (v k : Near) (old : Option Near) (t : Bool) → is_key key q ≡ t → v ≡ near rows key.place (record { table = key.table; row = key.row }) → (old ≡ Some k → k ≡ near rows q.place (record { table = q.table; row = q.row })) → either (if t then Some v else None) old ≡ Some k → k ≡ near rows q.place (record { table = q.table; row = q.row })
+near_test rows q key v k old false is here there e = there e
+near_test rows q key v k old true is here there e =
+    let both = both_left (key.table == q.table && key.row == q.row) (key.place == q.place) is in
+    let table = eqb-true key.table q.table (both_left (key.table == q.table) (key.row == q.row) both) in
+    let row = eqb-true key.row q.row (both_right (key.table == q.table) (key.row == q.row) both) in
+    let place = eqb-true key.place q.place (both_right (key.table == q.table && key.row == q.row) (key.place == q.place) is) in
+    let one : near rows key.place (record { table = key.table; row = key.row }) ≡ near rows q.place (record { table = q.table; row = q.row }) = rw (table, row, place) refl in
+    sym (ap (λ (o : Option Near). unwrap_or o v) e) ∙ here ∙ one
+
+pub more_near : (rows : Rows) (old new : Index Near) (e : KeyEntry Near) (level : ℕ) (t : Token) (v : Near) → AreNear rows old → v ≡ near rows level t → entry_key e ≡ record { table = t.table; row = t.row; place = level } → value_of e ≡ v → ((q : Key) → value_at new q ≡ either (latest_one e q) (value_at old q)) → AreNear rows new
+more_near rows old new e level t v kept key place value puts q k is =
+    let here : value_of e ≡ near rows (entry_key e).place (record { table = (entry_key e).table; row = (entry_key e).row }) = value ∙ key ∙ sym (ap (λ (p : Key). near rows p.place (record { table = p.table; row = p.row })) place) in
+    near_test rows q (entry_key e) (value_of e) k (value_at old q) (is_key (entry_key e) q) refl here (kept q k) (sym (puts q) ∙ is)
 
 none_placed : {K : Type 0} (key : ℕ → List ℕ → K) (stored : ℕ → Option (List ℕ)) (index : Index K) → ((q : Key) → value_at index q ≡ None) → AreOfBlobs key stored index
 none_placed key stored index none q k blob e there = absurd_none (sym (none q) ∙ e)
@@ -85,12 +100,4 @@ more_signatures rows stored old new e at here v kept stands key place value puts
 pub more_shapes : (rows : Rows) (stored : ℕ → Option (List ℕ)) (old new : Index Mix) (e : KeyEntry Mix) (at : Key) (here : List ℕ) (v : Mix) → AreSpecShapes rows stored old → stored (at.place * 2 ^ 32 + at.row) ≡ Some here → v ≡ spec_shape rows here → entry_key e ≡ at → value_of e ≡ v → ((q : Key) → value_at new q ≡ either (latest_one e q) (value_at old q)) → AreSpecShapes rows stored new
 more_shapes rows stored old new e at here v kept stands key place value puts = more_placed (λ (table : ℕ). spec_shape rows) stored old new e at here v kept stands key place value puts
 
--- keys within a TypeSpec
-pub inner_spec : (rows : Rows) (t : Token) → t.table ≡ 0x1B → token_key t ≡ ref_key rows 100 t
-inner_spec rows t e = key_other rows 100 t (omega arith) (ap (λ n. n == 0x01) e) (ap (λ n. n == 0x23) e) (ap (λ n. n == 0x1A) e)
-
-pub inner_other : (rows : Rows) (t : Token) → (t.table == 0x1B) ≡ false → key_of rows t ≡ ref_key rows 100 t
-unfolding key_of
-inner_other rows t e = rw e refl
-
-pub ruleset learnt_steps = (none_learnt, no_names, no_shape, no_signature)
+pub ruleset learnt_steps = (none_learnt, no_shape, no_signature)

@@ -15,6 +15,7 @@ pub mod KindsOf
 pub mod Owned
 pub mod NameParts
 pub mod NamePlaces
+pub mod ScopeKeys
 pub mod OneKey
 pub mod Learnt
 pub mod MemberKeys

@@ -1,6 +1,6 @@
 -- Keys of tokens and signatures: mixes that alike ones have in common. They tell which are worth comparing; that
 -- keys are equal says nothing.
-use Rattle.std.specs.Prelude.{◌≡◌, ℕ, zero, suc, ◌+◌, ◌*◌, ◌^◌, Bool, true, false, nat_lt, ◌==◌, List, Option, Some, unwrap_or, if◌then◌else◌}
+use Rattle.std.specs.Prelude.{◌≡◌, ℕ, zero, suc, ◌+◌, ◌*◌, ◌^◌, Bool, true, false, is_some, ◌==◌, List, Option, Some, unwrap_or, if◌then◌else◌}
 use Rattle.enc_base.specs.declared.token.Token.{Token}
 use Rattle.enc_sigs.specs.Mix.{mix_of, mixed, mixed_both, mixed_ends, finished}
 use Rattle.enc_sigs.specs.declared.mix.Mix.{Mix}
@@ -9,7 +9,8 @@ use Rattle.enc_sigs.specs.declared.kind.SigKind.TheVariants.{TypeSpec}
 use Rattle.enc_key_map.specs.declared.index.Index.{Index}
 use Rattle.enc_key_map.specs.declared.key.Key.{Key}
 use Rattle.enc_key_map.specs.Index.{value_at}
-use Rattle.enc_plain.specs.Rows.{Rows, bytes_at, token_at}
+use Rattle.enc_plain.specs.Rows.{Rows, number_at, bytes_at, token_at}
+use Rattle.enc_plain.specs.declared.near.Near.{Near}
 use Rattle.enc_plain.specs.Signatures.{kind_in_table, signature_column}
 use Rattle.enc_base.specs.Tables as tables
 use Rattle.enc_schema.specs.Columns as columns
@@ -27,43 +28,84 @@ unfoldable pub names_key : Rows → Token → Mix
 names_key rows t = mixed_both (name_mix (bytes_at rows t columns.type_ref_type_name))
     (name_mix (bytes_at rows t columns.type_ref_type_namespace))
 
--- of a TypeRef: its names, and the key of its scope
-unfoldable pub type_ref_key : Rows → Mix → Token → Mix
-type_ref_key rows scope t = mixed_both scope (names_key rows t)
+-- of an AssemblyRef: the version's four numbers and the flags
+unfoldable pub version_key : Rows → Token → Mix
+version_key rows t = mixed (mixed (mixed (mixed (mixed (mix_of tables.assembly_ref) (number_at rows t 0))
+    (number_at rows t 1)) (number_at rows t 2)) (number_at rows t 3)) (number_at rows t 4)
 
--- the same, its names left out where many scopes stand around it
-unfoldable pub scoped_key : Rows → Bool → Mix → Token → Mix
-scoped_key rows true scope t = type_ref_key rows scope t
-scoped_key rows false scope t = mixed_both (mix_of tables.type_ref) scope
-
--- of an AssemblyRef and of a ModuleRef: its name
+-- all its columns
 unfoldable pub assembly_ref_key : Rows → Token → Mix
-assembly_ref_key rows t = mixed_ends 0x800 (mix_of tables.assembly_ref) (bytes_at rows t columns.assembly_ref_name)
+assembly_ref_key rows t = mixed_ends 0x800 (mixed_ends 0x800 (mixed_ends 0x800 (mixed_ends 0x800 (version_key rows t)
+    (bytes_at rows t 5)) (bytes_at rows t 6)) (bytes_at rows t 7)) (bytes_at rows t 8)
 
+-- of a ModuleRef: its name
 unfoldable pub module_ref_key : Rows → Token → Mix
 module_ref_key rows t = mixed_ends 0x800 (mix_of tables.module_ref) (bytes_at rows t columns.module_ref_name)
 
--- of a token, through at most so many scopes one in the other, with the names of those past the first 96
-unfoldable pub ref_key : Rows → ℕ → Token → Mix
-ref_key rows zero t = token_key t
-ref_key rows (suc depth) t =
-    if t.table == tables.type_ref then scoped_key rows (nat_lt 96 (suc depth))
-    (ref_key rows depth (token_at rows t columns.type_ref_resolution_scope)) t
+-- of a row by itself, without its scope
+unfoldable pub row_key : Rows → Token → Mix
+row_key rows t =
+    if t.table == tables.type_ref then names_key rows t
     else if t.table == tables.assembly_ref then assembly_ref_key rows t
     else if t.table == tables.module_ref then module_ref_key rows t
     else token_key t
 
+-- of a token by itself: one that names no row is alike itself alone
+unfoldable pub own_key : Rows → Token → Mix
+own_key rows t = if is_some (rows t) then row_key rows t else token_key t
+
+-- the scope of a TypeRef; of any other token itself
+unfoldable pub scope_of : Rows → Token → Token
+scope_of rows t = if t.table == tables.type_ref then token_at rows t columns.type_ref_resolution_scope else t
+
+-- one key behind another, and where the second ends
+abbrev pub joined : Near → Near → Near
+joined a b = record { mix = mixed_both a.mix b.mix; end = b.end }
+
+-- the keys of a token and of the scopes around it, 2 ^ level in all, and the scope behind them
+unfoldable pub near : Rows → ℕ → Token → Near
+near rows zero t = record { mix = own_key rows t; end = scope_of rows t }
+near rows (suc level) t = joined (near rows level t) (near rows level (near rows level t).end)
+
+-- so many scopes more
+abbrev pub onward : Rows → Near → ℕ → Near
+onward rows a level = joined a (near rows level a.end)
+
+-- of a token and 99 scopes around it, as likeness follows them, and inside the signature of a TypeSpec of 98
+unfoldable pub outer : Rows → Token → Near
+outer rows t = onward rows (onward rows (near rows 6 t) 5) 2
+
+unfoldable pub inner : Rows → Token → Near
+inner rows t = onward rows (onward rows (onward rows (near rows 6 t) 5) 1) 0
+
+-- of the scope where likeness ends: a TypeRef is alike itself alone there
+unfoldable pub end_key : Rows → Token → Mix
+end_key rows t = if t.table == tables.type_ref then token_key t else own_key rows t
+
+-- with the scope behind them
+abbrev pub ended : Rows → Near → Mix
+ended rows a = mixed_both a.mix (end_key rows a.end)
+
+-- of a token that is no TypeSpec
+unfoldable pub ref_key : Rows → Token → Mix
+ref_key rows t = if t.table == tables.type_ref then ended rows (outer rows t) else own_key rows t
+
+-- of any token in the signature of a TypeSpec, where a TypeSpec is alike itself alone
+unfoldable pub inner_key : Rows → Token → Mix
+inner_key rows t = if t.table == tables.type_ref then ended rows (inner rows t) else own_key rows t
+
 -- of the signature of a TypeSpec: its shape
 unfoldable pub spec_shape : Rows → List ℕ → Mix
-spec_shape rows blob = sig_shape (ref_key rows 100) TypeSpec blob
+spec_shape rows blob = sig_shape (inner_key rows) TypeSpec blob
 
 -- of a TypeSpec: that of its signature
 unfoldable pub spec_key : Rows → Token → Mix
-spec_key rows t = spec_shape rows (bytes_at rows t columns.type_spec_signature)
+spec_key rows t = if is_some (rows t) then spec_shape rows (bytes_at rows t columns.type_spec_signature)
+    else token_key t
 
 -- of any token
 unfoldable pub key_of : Rows → Token → Mix
-key_of rows t = if t.table == tables.type_spec then spec_key rows t else ref_key rows 100 t
+key_of rows t = if t.table == tables.type_spec then spec_key rows t else ref_key rows t
 
 -- of a signature of a table, in 64 bits
 unfoldable pub signature_key : Rows → ℕ → List ℕ → ℕ
@@ -91,9 +133,11 @@ AreSpecShapes rows = AreOfBlobs (λ (table : ℕ). spec_shape rows)
 abbrev pub AreMixes : (Token → Mix) → Index Mix → Type 0
 AreMixes mix index = (q : Key) (k : Mix) → value_at index q ≡ Some k → k ≡ mix (record { table = q.table; row = q.row })
 
--- the keys of tokens, and those of the names of TypeRefs
+-- the keys of tokens
 abbrev pub AreKeys : Rows → Index Mix → Type 0
 AreKeys rows = AreMixes (key_of rows)
 
-abbrev pub AreNames : Rows → Index Mix → Type 0
-AreNames rows = AreMixes (names_key rows)
+-- an index has none but the keys of tokens and of scopes around them, by the token and the level
+abbrev pub AreNear : Rows → Index Near → Type 0
+AreNear rows index = (q : Key) (a : Near) → value_at index q ≡ Some a
+    → a ≡ near rows q.place (record { table = q.table; row = q.row })

@@ -1,16 +1,18 @@
 //! Keys of tokens and signatures: mixes that alike ones have in common, by which those that may be
 //! alike are found.
 ghost use Rattle.std.specs.Prelude.{◌≡◌};
-ghost use Rattle.enc_plain.specs.Keys.{token_key, name_mix, names_key, assembly_ref_key, module_ref_key};
+ghost use Rattle.enc_plain.specs.Keys.{token_key, name_mix, names_key, version_key, assembly_ref_key, module_ref_key, row_key, own_key, scope_of};
 ghost use Rattle.enc_plain.specs.Rows.{token_at, bytes_at};
 ghost use Rattle.enc_base.specs.Tables.{assembly_ref, module_ref, type_ref, type_spec};
 
 use crate::cells::CellView;
 use enc_base::Token;
-use enc_base::tables::{ASSEMBLY_REF, MODULE_REF};
+use enc_base::tables::{ASSEMBLY_REF, MODULE_REF, TYPE_REF};
 use enc_schema::columns::{
-    ASSEMBLY_REF_NAME, MODULE_REF_NAME, TYPE_REF_RESOLUTION_SCOPE, TYPE_REF_TYPE_NAME,
-    TYPE_REF_TYPE_NAMESPACE, TYPE_SPEC_SIGNATURE,
+    ASSEMBLY_REF_BUILD_NUMBER, ASSEMBLY_REF_CULTURE, ASSEMBLY_REF_FLAGS, ASSEMBLY_REF_HASH_VALUE,
+    ASSEMBLY_REF_MAJOR_VERSION, ASSEMBLY_REF_MINOR_VERSION, ASSEMBLY_REF_NAME,
+    ASSEMBLY_REF_PUBLIC_KEY_OR_TOKEN, ASSEMBLY_REF_REVISION_NUMBER, MODULE_REF_NAME,
+    TYPE_REF_RESOLUTION_SCOPE, TYPE_REF_TYPE_NAME, TYPE_REF_TYPE_NAMESPACE, TYPE_SPEC_SIGNATURE,
 };
 use enc_sigs::{Mix, mix_of, mixed, mixed_both, mixed_ends};
 
@@ -35,7 +37,7 @@ fn name_mix(bytes: &[u8]) -> Mix
 
 /// The key of a TypeRef's two names.
 #[tactic(auto, unfolding(enc_schema::specs::Schema::columns_in, crate::specs::Keys::names_key))]
-pub fn names_key<R: CellView>(rows: &R, token: Token) -> Mix
+fn names_key<R: CellView>(rows: &R, token: Token) -> Mix
     requires { token.table ≡ type_ref }
     ensures { result ≡ names_key (R.rows rows.now) token }
 {
@@ -43,22 +45,52 @@ pub fn names_key<R: CellView>(rows: &R, token: Token) -> Mix
     mixed_both(name, name_mix(rows.text(token, TYPE_REF_TYPE_NAMESPACE)))
 }
 
-/// The key of an AssemblyRef: its name.
+/// The key of an AssemblyRef's version and flags.
+#[tactic(auto, unfolding(enc_schema::specs::Schema::columns_in, crate::specs::Keys::version_key))]
+fn version_key<R: CellView>(rows: &R, token: Token) -> Mix
+    requires { token.table ≡ assembly_ref }
+    ensures { result ≡ version_key (R.rows rows.now) token }
+{
+    let mix = mix_of(u64::from(ASSEMBLY_REF));
+    let mix = mixed(
+        mix,
+        u64::from(rows.number(token, ASSEMBLY_REF_MAJOR_VERSION)),
+    );
+    let mix = mixed(
+        mix,
+        u64::from(rows.number(token, ASSEMBLY_REF_MINOR_VERSION)),
+    );
+    let mix = mixed(
+        mix,
+        u64::from(rows.number(token, ASSEMBLY_REF_BUILD_NUMBER)),
+    );
+    let mix = mixed(
+        mix,
+        u64::from(rows.number(token, ASSEMBLY_REF_REVISION_NUMBER)),
+    );
+    mixed(mix, u64::from(rows.number(token, ASSEMBLY_REF_FLAGS)))
+}
+
+/// The key of an AssemblyRef: all its columns.
 #[tactic(auto, unfolding(enc_schema::specs::Schema::columns_in, crate::specs::Keys::assembly_ref_key))]
-pub fn assembly_ref_key<R: CellView>(rows: &R, token: Token) -> Mix
+fn assembly_ref_key<R: CellView>(rows: &R, token: Token) -> Mix
     requires { token.table ≡ assembly_ref }
     ensures { result ≡ assembly_ref_key (R.rows rows.now) token }
 {
-    mixed_ends(
+    let mix = version_key(rows, token);
+    let mix = mixed_ends(
         MOST,
-        mix_of(u64::from(ASSEMBLY_REF)),
-        rows.text(token, ASSEMBLY_REF_NAME),
-    )
+        mix,
+        rows.blob(token, ASSEMBLY_REF_PUBLIC_KEY_OR_TOKEN),
+    );
+    let mix = mixed_ends(MOST, mix, rows.text(token, ASSEMBLY_REF_NAME));
+    let mix = mixed_ends(MOST, mix, rows.text(token, ASSEMBLY_REF_CULTURE));
+    mixed_ends(MOST, mix, rows.blob(token, ASSEMBLY_REF_HASH_VALUE))
 }
 
 /// The key of a ModuleRef: its name.
 #[tactic(auto, unfolding(enc_schema::specs::Schema::columns_in, crate::specs::Keys::module_ref_key))]
-pub fn module_ref_key<R: CellView>(rows: &R, token: Token) -> Mix
+fn module_ref_key<R: CellView>(rows: &R, token: Token) -> Mix
     requires { token.table ≡ module_ref }
     ensures { result ≡ module_ref_key (R.rows rows.now) token }
 {
@@ -69,13 +101,52 @@ pub fn module_ref_key<R: CellView>(rows: &R, token: Token) -> Mix
     )
 }
 
+/// The key of a row by itself, without its scope.
+#[tactic(auto, unfolding(crate::specs::Keys::row_key))]
+fn row_key<R: CellView>(rows: &R, token: Token) -> Mix
+    ensures { result ≡ row_key (R.rows rows.now) token }
+{
+    if token.table == TYPE_REF {
+        return names_key(rows, token);
+    }
+    if token.table == ASSEMBLY_REF {
+        return assembly_ref_key(rows, token);
+    }
+    if token.table == MODULE_REF {
+        return module_ref_key(rows, token);
+    }
+    token_key(token)
+}
+
+/// The key of a token by itself. One that names no row is alike itself alone.
+#[tactic(auto, unfolding(crate::specs::Keys::own_key))]
+pub fn own_key<R: CellView>(rows: &R, token: Token) -> Mix
+    ensures { result ≡ own_key (R.rows rows.now) token }
+{
+    if rows.has(token) {
+        return row_key(rows, token);
+    }
+    token_key(token)
+}
+
 /// The scope of a TypeRef.
 #[tactic(auto, unfolding(enc_schema::specs::Schema::columns_in))]
-pub fn scope_of<R: CellView>(rows: &R, token: Token) -> Token
+fn resolution_scope<R: CellView>(rows: &R, token: Token) -> Token
     requires { token.table ≡ type_ref }
     ensures { result ≡ token_at (R.rows rows.now) token 0 }
 {
     rows.token(token, TYPE_REF_RESOLUTION_SCOPE)
+}
+
+/// The scope of a TypeRef; of any other token itself.
+#[tactic(auto, unfolding(crate::specs::Keys::scope_of))]
+pub fn scope_of<R: CellView>(rows: &R, token: Token) -> Token
+    ensures { result ≡ scope_of (R.rows rows.now) token }
+{
+    if token.table == TYPE_REF {
+        return resolution_scope(rows, token);
+    }
+    token
 }
 
 /// The signature of a TypeSpec.

@@ -2,48 +2,42 @@
 ghost use Rattle.std.specs.Prelude.{◌≡◌, ℕ, ◌+◌, ◌*◌, ◌^◌, ◌<◌, List, Some, IfSome, length, is_some};
 ghost use Rattle.enc_key_map.specs.declared.key.Key.{Key as TheKey};
 ghost use Rattle.enc_plain.specs.Cell.{blobs, kind_in};
-ghost use Rattle.enc_plain.specs.Keys.{names_key, scoped_key, ref_key, spec_shape, spec_key, key_of, signature_key};
+ghost use Rattle.enc_plain.specs.Keys.{inner_key, spec_shape, spec_key, key_of, signature_key};
 ghost use Rattle.enc_plain.specs.Rows.{bytes_at, AreStoredAt};
-ghost use Rattle.enc_base.specs.Tables.{type_ref, type_spec};
+ghost use Rattle.enc_base.specs.Tables.{type_spec};
 
 use crate::cells::CellView;
-use crate::keys::{assembly_ref_key, module_ref_key, names_key, scope_of, spec_of, token_key};
+use crate::keys::{spec_of, token_key};
 use crate::known::spec_place;
+use crate::scope_keys::ScopeKeys;
 use crate::signature::kind_in_table;
 use enc_base::Token;
-use enc_base::tables::{ASSEMBLY_REF, MODULE_REF, TYPE_REF, TYPE_SPEC};
+use enc_base::tables::{TYPE_REF, TYPE_SPEC};
 use enc_key_map::{Index, Key, KeyEntry};
-use enc_sigs::{Mix, SigKind, coded_token, finished, mix_of, mixed_both, sig_shape};
+use enc_sigs::{Mix, SigKind, coded_token, finished, sig_shape};
 use std::alloc::{AllocError, Global};
 use std::marker::Model;
 
-/// Past how many scopes one in the other the names of one count.
-const UNNAMED: u8 = 96;
-
-/// How many scopes' names count, of 100.
-const NAMED: u8 = 4;
-
-/// Rows, and the keys of TypeRefs that were learnt, those of their names, and those of signatures by
-/// the places of their blobs.
+/// Rows, and the keys that were learnt: those of TypeRefs and of the scopes around them, and those of
+/// signatures by the places of their blobs.
 #[derive(Drop)]
 pub struct RefKeys<'a, R: CellView> {
-    rows: &'a R,
+    scopes: ScopeKeys<'a, R>,
     index: Index<Mix>,
-    names: Index<Mix>,
     specs: Index<Mix>,
     signatures: Index<u64>,
 }
 
 impl<'a, R: CellView> Model for RefKeys<'a, R> {
-    ghost use Rattle.enc_plain.specs.Keys.{AreKeys, AreNames, AreSpecShapes, AreSignatureKeys};
+    ghost use Rattle.enc_plain.specs.Keys.{AreKeys, AreSpecShapes, AreSignatureKeys};
 
     ghost Value = { R };
 
-    ghost view = { λ k. k.rows.now };
+    ghost view = { λ k. k.scopes };
 
-    ghost invariant = { λ k. AreKeys (R.rows k.rows.now) k.index × AreNames (R.rows k.rows.now) k.names
-        × AreSpecShapes (R.rows k.rows.now) (R.stored k.rows.now) k.specs
-        × AreSignatureKeys (R.rows k.rows.now) (R.stored k.rows.now) k.signatures };
+    ghost invariant = { λ k. AreKeys (R.rows k.scopes) k.index
+        × AreSpecShapes (R.rows k.scopes) (R.stored k.scopes) k.specs
+        × AreSignatureKeys (R.rows k.scopes) (R.stored k.scopes) k.signatures };
 }
 
 /// What a token's key stands by.
@@ -89,9 +83,8 @@ impl<'a, R: CellView> RefKeys<'a, R> {
         ensures { result ≡ rows.now }
     {
         RefKeys {
-            rows,
+            scopes: ScopeKeys::new(rows),
             index: Index::new(),
-            names: Index::new(),
             specs: Index::new(),
             signatures: Index::new(),
         }
@@ -101,65 +94,14 @@ impl<'a, R: CellView> RefKeys<'a, R> {
     pub fn rows(&self) -> &'a R
         ensures { result.now ≡ self.now }
     {
-        self.rows
-    }
-
-    /// The key of a TypeRef's two names.
-    fn names_key(&self, token: Token) -> Mix
-        requires { token.table ≡ type_ref }
-        ensures { result ≡ names_key (R.rows self.now) token }
-    {
-        match self.names.get(place_of(token)) {
-            Some(key) => *key,
-            None => names_key(self.rows, token),
-        }
-    }
-
-    /// The key of a TypeRef: its names, and the key of its scope. The names are left out where many
-    /// scopes stand around it: a text is read up to its end, and scopes may stand a hundred deep.
-    #[tactic(auto, unfolding(crate::specs::Keys::scoped_key, crate::specs::Keys::type_ref_key))]
-    fn scoped_key(&self, is_named: bool, scope: Mix, token: Token) -> Mix
-        requires { token.table ≡ type_ref }
-        ensures { result ≡ scoped_key (R.rows self.now) is_named scope token }
-    {
-        if is_named {
-            return mixed_both(scope, self.names_key(token));
-        }
-        mixed_both(mix_of(u64::from(TYPE_REF)), scope)
-    }
-
-    /// The key of a token, through at most so many scopes one in the other, with the names of those
-    /// past the first 96.
-    #[tactic(auto, using(crate::proofs::OneKey::ref_steps))]
-    fn ref_key(&self, depth: u8, token: Token) -> Mix
-        ensures { result ≡ ref_key (R.rows self.now) depth token }
-    {
-        if depth == 0 {
-            return token_key(token);
-        }
-        match token.table {
-            TYPE_REF => {
-                let scope = self.ref_key(depth - 1, scope_of(self.rows, token));
-                self.scoped_key(depth > UNNAMED, scope, token)
-            }
-            ASSEMBLY_REF => assembly_ref_key(self.rows, token),
-            MODULE_REF => module_ref_key(self.rows, token),
-            _ => token_key(token),
-        }
+        self.scopes.rows()
     }
 
     /// The key of a token in the signature of a TypeSpec.
-    #[tactic(auto, using(crate::proofs::Learnt::inner_spec, crate::proofs::Learnt::inner_other))]
     fn inner_key(&self, token: Token) -> Mix
-        ensures { result ≡ ref_key (R.rows self.now) 100 token }
+        ensures { result ≡ inner_key (R.rows self.now) token }
     {
-        if token.table == TYPE_SPEC {
-            return token_key(token);
-        }
-        match self.index.get(place_of(token)) {
-            Some(key) => *key,
-            None => self.ref_key(100, token),
-        }
+        self.scopes.inner_key(token)
     }
 
     /// The shape of the signature of a TypeSpec.
@@ -179,16 +121,28 @@ impl<'a, R: CellView> RefKeys<'a, R> {
         Some(*shape)
     }
 
-    /// The key of a TypeSpec: the shape of its signature.
+    /// The shape of the signature of a TypeSpec's row.
+    fn shape_of(&self, token: Token) -> Mix
+        requires { token.table ≡ type_spec }
+        ensures { result ≡ spec_shape (R.rows self.now) (bytes_at (R.rows self.now) token 0) }
+    {
+        let rows = self.scopes.rows();
+        match self.learnt_shape(spec_place(rows, token)) {
+            Some(shape) => shape,
+            None => self.spec_shape(spec_of(rows, token)),
+        }
+    }
+
+    /// The key of a TypeSpec: the shape of its signature. One that names no row is alike itself alone.
     #[tactic(auto, unfolding(crate::specs::Keys::spec_key))]
     fn spec_key(&self, token: Token) -> Mix
         requires { token.table ≡ type_spec }
         ensures { result ≡ spec_key (R.rows self.now) token }
     {
-        match self.learnt_shape(spec_place(self.rows, token)) {
-            Some(shape) => shape,
-            None => self.spec_shape(spec_of(self.rows, token)),
+        if self.scopes.rows().has(token) {
+            return self.shape_of(token);
         }
+        token_key(token)
     }
 
     /// The key of a token that isn't learnt.
@@ -199,7 +153,7 @@ impl<'a, R: CellView> RefKeys<'a, R> {
         if token.table == TYPE_SPEC {
             return self.spec_key(token);
         }
-        self.ref_key(100, token)
+        self.scopes.ref_key(token)
     }
 
     /// The key of any token. Alike tokens have one.
@@ -223,38 +177,6 @@ impl<'a, R: CellView> RefKeys<'a, R> {
         Ok(())
     }
 
-    /// Learns the key of a TypeRef's names.
-    #[tactic(auto, using(crate::proofs::Learnt::more_names))]
-    fn learn_name(&mut self, alloc: Global, token: Token) -> Result<(), AllocError>
-        requires { token.table ≡ type_ref }
-        ensures { self.new ≡ self.old }
-    {
-        if self.names.get(place_of(token)).is_some() {
-            return Ok(());
-        }
-        let key = names_key(self.rows, token);
-        let entry = KeyEntry::new(alloc, place_of(token), key)?;
-        self.names.put(entry);
-        Ok(())
-    }
-
-    /// Learns the keys of the names that count in the key of a TypeRef: its own, and those of the
-    /// scopes next around it.
-    fn learn_names(&mut self, alloc: Global, token: Token) -> Result<(), AllocError>
-        ensures { self.new ≡ self.old }
-    {
-        let rows = self.rows;
-        let mut scope = token;
-        for _ in 0..NAMED {
-            if scope.table != TYPE_REF {
-                return Ok(());
-            }
-            self.learn_name(alloc, scope)?;
-            scope = scope_of(rows, scope);
-        }
-        Ok(())
-    }
-
     /// Learns the key of a TypeRef.
     fn learn_ref(&mut self, alloc: Global, token: Token) -> Result<(), AllocError>
         ensures { self.new ≡ self.old }
@@ -262,7 +184,7 @@ impl<'a, R: CellView> RefKeys<'a, R> {
         if token.table != TYPE_REF || self.index.get(place_of(token)).is_some() {
             return Ok(());
         }
-        self.learn_names(alloc, token)?;
+        self.scopes.learn(alloc, token)?;
         let key = self.found_key(token);
         self.put(alloc, token, key)
     }
@@ -309,7 +231,7 @@ impl<'a, R: CellView> RefKeys<'a, R> {
         requires { token.table ≡ type_spec }
         ensures { self.new ≡ self.old }
     {
-        let rows = self.rows;
+        let rows = self.scopes.rows();
         match spec_place(rows, token) {
             Some(place) => self.learn_shape(
                 alloc,
@@ -392,7 +314,7 @@ impl<'a, R: CellView> RefKeys<'a, R> {
         requires { kind_in row.table column ≡ Some blobs }
         ensures { self.new ≡ self.old }
     {
-        let rows = self.rows;
+        let rows = self.scopes.rows();
         match rows.blob_place(row, column) {
             Some(place) => self.learn_at(
                 alloc,
@@ -409,9 +331,10 @@ impl<'a, R: CellView> RefKeys<'a, R> {
         requires { kind_in row.table column ≡ Some blobs }
         ensures { result ≡ signature_key (R.rows self.now) row.table (bytes_at (R.rows self.now) row column) }
     {
-        match self.learnt_at(row.table, self.rows.blob_place(row, column)) {
+        let rows = self.scopes.rows();
+        match self.learnt_at(row.table, rows.blob_place(row, column)) {
             Some(key) => key,
-            None => self.signature_key(row.table, self.rows.blob(row, column)),
+            None => self.signature_key(row.table, rows.blob(row, column)),
         }
     }
 }
