@@ -144,7 +144,7 @@ modules_are rows a b h =
     }
 
 -- tokens that are alike by so many scopes, or references without a scope that are
-abbrev pub AreNearby : Rows → ℕ → Token → Token → Type 0
+abbrev AreNearby : Rows → ℕ → Token → Token → Type 0
 AreNearby rows d a b = (refs_alike rows d a b ≡ true) ⊎ AreEnds rows a b
 
 itself : (t : Token) → is_token t t ≡ true
@@ -250,8 +250,8 @@ one_table rows (suc d) a b h = elim (one_of (is_token a b) (type_refs_alike rows
 ]
 
 by_tests : (rows : Rows) (a b : Token) (t : Bool) (x y : Mix) → (a.table == 0x01) ≡ t → a.table ≡ b.table → x ≡ y → own_key rows a ≡ own_key rows b → (if a.table == 0x01 then x else own_key rows a) ≡ (if b.table == 0x01 then y else own_key rows b)
-by_tests rows a b true x y is one keys own = rw (sym one, is) keys
-by_tests rows a b false x y is one keys own = rw (sym one, is) own
+by_tests rows a b true x y is one keys own = let other : (b.table == 0x01) ≡ true = ap (λ n. n == 0x01) (sym one) ∙ is in rw (is, other) keys
+by_tests rows a b false x y is one keys own = let other : (b.table == 0x01) ≡ false = ap (λ n. n == 0x01) (sym one) ∙ is in rw (is, other) own
 
 -- alike references have one key
 pub refs_one : (rows : Rows) (a b : Token) → refs_alike rows 100 a b ≡ true → ref_key rows a ≡ ref_key rows b
