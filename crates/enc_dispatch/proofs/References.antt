@@ -7,7 +7,7 @@ use Rattle.enc_base.specs.Token.{nil, is_token}
 use Rattle.enc_base.specs.declared.token.Token.{Token}
 use Rattle.enc_plain.specs.Alike.{are_rows, type_refs_alike, assembly_refs_alike, module_refs_alike, refs_alike, type_specs_alike, tokens_alike, signatures_alike}
 use Rattle.enc_plain.specs.Cell.{Cell, number, text, blob, guid, refer, body, field}
-use Rattle.enc_plain.specs.Keys.{token_key, names_key, version_key, assembly_ref_key, module_ref_key, row_key, own_key, scope_of, near, joined, onward, outer, inner, end_key, ended, ref_key, inner_key, spec_shape, spec_key, key_of, signature_key}
+use Rattle.enc_plain.specs.Keys.{token_key, names_key, version_key, assembly_ref_key, module_ref_key, reference_key, single_key, scope_of, near, joined, onward, outer, inner, end_key, ended, ref_key, inner_key, spec_shape, spec_key, key_of, signature_key}
 use Rattle.enc_plain.specs.declared.near.Near.{Near}
 use Rattle.enc_plain.specs.Module.{Module, has_row, cells_of, cell_of}
 use Rattle.enc_plain.specs.Rows.{Rows, number_of_cell, bytes_of_cell, token_of_cell, number_at, bytes_at, token_at}
@@ -312,25 +312,25 @@ module_by r s a e = rw (bytes_by r s a 0 e) refl
 abbrev SameKey : Module → Module → (Rows → Token → Mix) → Type 0
 SameKey m n key = (t : Token) → Known m t → key (cells_of n) t ≡ key (cells_of m) t
 
-own_by : (r s : Rows) (t : Token) → r t ≡ s t → own_key r t ≡ own_key s t
-unfolding own_key row_key
+own_by : (r s : Rows) (t : Token) → r t ≡ s t → single_key r t ≡ single_key s t
+unfolding single_key reference_key
 own_by r s t e = rw (e, names_by r s t e, assembly_by r s t e, module_by r s t e) refl
 
 one_way : (b : Bool) (k : Mix) → (if b then k else k) ≡ k
 one_way true k = refl
 one_way false k = refl
 
-own_other : (r : Rows) (t : Token) → (t.table == 0x01) ≡ false → (t.table == 0x23) ≡ false → (t.table == 0x1A) ≡ false → own_key r t ≡ token_key t
-unfolding own_key row_key
+own_other : (r : Rows) (t : Token) → (t.table == 0x01) ≡ false → (t.table == 0x23) ≡ false → (t.table == 0x1A) ≡ false → single_key r t ≡ token_key t
+unfolding single_key reference_key
 own_other r t ex ey ez = rw (ex, ey, ez) (one_way (is_some (r t)) (token_key t))
 
-own_by_tests : (m n : Module) (t : Token) (x y z : Bool) → RefsStay m n → Known m t → (t.table == 0x01) ≡ x → (t.table == 0x23) ≡ y → (t.table == 0x1A) ≡ z → own_key (cells_of n) t ≡ own_key (cells_of m) t
+own_by_tests : (m n : Module) (t : Token) (x y z : Bool) → RefsStay m n → Known m t → (t.table == 0x01) ≡ x → (t.table == 0x23) ≡ y → (t.table == 0x1A) ≡ z → single_key (cells_of n) t ≡ single_key (cells_of m) t
 own_by_tests m n t true y z stay known ex ey ez = own_by (cells_of n) (cells_of m) t (stays m n 0x01 t stay known (eq_of t.table 0x01 ex) refl refl)
 own_by_tests m n t false true z stay known ex ey ez = own_by (cells_of n) (cells_of m) t (stays m n 0x23 t stay known (eq_of t.table 0x23 ey) refl refl)
 own_by_tests m n t false false true stay known ex ey ez = own_by (cells_of n) (cells_of m) t (stays m n 0x1A t stay known (eq_of t.table 0x1A ez) refl refl)
 own_by_tests m n t false false false stay known ex ey ez = own_other (cells_of n) t ex ey ez ∙ sym (own_other (cells_of m) t ex ey ez)
 
-own_same : (m n : Module) → RefsStay m n → SameKey m n own_key
+own_same : (m n : Module) → RefsStay m n → SameKey m n single_key
 own_same m n stay t known = own_by_tests m n t (t.table == 0x01) (t.table == 0x23) (t.table == 0x1A) stay known refl refl refl
 
 -- the keys of some scopes are the same, and what is behind them is known

@@ -10,7 +10,7 @@ use Rattle.enc_sigs.specs.Mix.{mixed_both}
 use Rattle.enc_sigs.proofs.Shared.{both_left, both_right, or_else_right, token_is}
 use Rattle.enc_plain.specs.Rows.{Rows, number_at, bytes_at, token_at}
 use Rattle.enc_plain.specs.Alike.{are_rows, same_number, same_bytes, type_refs_alike, assembly_refs_alike, module_refs_alike, refs_alike}
-use Rattle.enc_plain.specs.Keys.{token_key, names_key, version_key, assembly_ref_key, module_ref_key, row_key, own_key, scope_of, near, joined, onward, outer, inner, end_key, ended, ref_key, inner_key}
+use Rattle.enc_plain.specs.Keys.{token_key, names_key, version_key, assembly_ref_key, module_ref_key, reference_key, single_key, scope_of, near, joined, onward, outer, inner, end_key, ended, ref_key, inner_key}
 use Rattle.enc_plain.specs.declared.near.Near.{Near}
 use Rattle.enc_plain.proofs.Scopes.{refs_same}
 
@@ -43,20 +43,20 @@ bytes_are rows a b i h = (bytes_eq-Decides (bytes_at rows a i) (bytes_at rows b 
 numbers_are : (rows : Rows) (a b : Token) (i : ℕ) → same_number rows a b i ≡ true → number_at rows a i ≡ number_at rows b i
 numbers_are rows a b i h = grind (arith, nat_tests)
 
-own_there : (rows : Rows) (t : Token) → is_some (rows t) ≡ true → own_key rows t ≡ row_key rows t
-unfolding own_key
+own_there : (rows : Rows) (t : Token) → is_some (rows t) ≡ true → single_key rows t ≡ reference_key rows t
+unfolding single_key
 own_there rows t h = rw h refl
 
-row_type_ref : (rows : Rows) (t : Token) → t.table ≡ 0x01 → row_key rows t ≡ names_key rows t
-unfolding row_key
+row_type_ref : (rows : Rows) (t : Token) → t.table ≡ 0x01 → reference_key rows t ≡ names_key rows t
+unfolding reference_key
 row_type_ref rows t e = rw e refl
 
-row_assembly_ref : (rows : Rows) (t : Token) → t.table ≡ 0x23 → row_key rows t ≡ assembly_ref_key rows t
-unfolding row_key
+row_assembly_ref : (rows : Rows) (t : Token) → t.table ≡ 0x23 → reference_key rows t ≡ assembly_ref_key rows t
+unfolding reference_key
 row_assembly_ref rows t e = rw e refl
 
-row_module_ref : (rows : Rows) (t : Token) → t.table ≡ 0x1A → row_key rows t ≡ module_ref_key rows t
-unfolding row_key
+row_module_ref : (rows : Rows) (t : Token) → t.table ≡ 0x1A → reference_key rows t ≡ module_ref_key rows t
+unfolding reference_key
 row_module_ref rows t e = rw e refl
 
 names_one : (rows : Rows) (a b : Token) → bytes_at rows a 1 ≡ bytes_at rows b 1 → bytes_at rows a 2 ≡ bytes_at rows b 2 → names_key rows a ≡ names_key rows b
@@ -73,7 +73,7 @@ columns_one rows a b e f g h i = rw (e, f, g, h, i) refl
 
 -- TypeRefs that are alike
 record AreTypes (rows : Rows) (scopes : Token → Token → Bool) (a b : Token) : Type 0 where
-  pub own : own_key rows a ≡ own_key rows b
+  pub own : single_key rows a ≡ single_key rows b
   pub first : a.table ≡ 0x01
   pub second : b.table ≡ 0x01
   pub scope : scopes (token_at rows a 0) (token_at rows b 0) ≡ true
@@ -95,7 +95,7 @@ types_are rows scopes a b h =
 
 -- references without a scope that are alike
 record AreEnds (rows : Rows) (a b : Token) : Type 0 where
-  pub own : own_key rows a ≡ own_key rows b
+  pub own : single_key rows a ≡ single_key rows b
   pub first : (a.table == 0x01) ≡ false
   pub second : (b.table == 0x01) ≡ false
 
@@ -153,12 +153,12 @@ itself t = grind (arith, nat_tests)
 still : (rows : Rows) (d : ℕ) (t u : Token) → t ≡ u → refs_alike rows d t u ≡ true
 still rows d t u e = sym (refs_same rows d t u (ap (is_token t) (sym e) ∙ itself t))
 
-own_one : (rows : Rows) (d : ℕ) (a b : Token) → AreNearby rows d a b → own_key rows a ≡ own_key rows b
+own_one : (rows : Rows) (d : ℕ) (a b : Token) → AreNearby rows d a b → single_key rows a ≡ single_key rows b
 unfolding refs_alike
 own_one rows d a b (inr ends) = ends.own
-own_one rows zero a b (inl h) = ap (own_key rows) (token_is a b h)
+own_one rows zero a b (inl h) = ap (single_key rows) (token_is a b h)
 own_one rows (suc d) a b (inl h) = elim (one_of (is_token a b) (type_refs_alike rows (refs_alike rows d) a b) (assembly_refs_alike rows a b) (module_refs_alike rows a b) h) [
-  | inl same ↦ ap (own_key rows) (token_is a b same)
+  | inl same ↦ ap (single_key rows) (token_is a b same)
   | inr (inl types) ↦ (types_are rows (refs_alike rows d) a b types).own
   | inr (inr (inl assemblies)) ↦ (assemblies_are rows a b assemblies).own
   | inr (inr (inr modules)) ↦ (modules_are rows a b modules).own
@@ -249,7 +249,7 @@ one_table rows (suc d) a b h = elim (one_of (is_token a b) (type_refs_alike rows
   | inr (inr (inr modules)) ↦ grind (arith, nat_tests)
 ]
 
-by_tests : (rows : Rows) (a b : Token) (t : Bool) (x y : Mix) → (a.table == 0x01) ≡ t → a.table ≡ b.table → x ≡ y → own_key rows a ≡ own_key rows b → (if a.table == 0x01 then x else own_key rows a) ≡ (if b.table == 0x01 then y else own_key rows b)
+by_tests : (rows : Rows) (a b : Token) (t : Bool) (x y : Mix) → (a.table == 0x01) ≡ t → a.table ≡ b.table → x ≡ y → single_key rows a ≡ single_key rows b → (if a.table == 0x01 then x else single_key rows a) ≡ (if b.table == 0x01 then y else single_key rows b)
 by_tests rows a b true x y is one keys own = let other : (b.table == 0x01) ≡ true = ap (λ n. n == 0x01) (sym one) ∙ is in rw (is, other) keys
 by_tests rows a b false x y is one keys own = let other : (b.table == 0x01) ≡ false = ap (λ n. n == 0x01) (sym one) ∙ is in rw (is, other) own
 

@@ -43,16 +43,16 @@ unfoldable pub module_ref_key : Rows → Token → Mix
 module_ref_key rows t = mixed_ends 0x800 (mix_of tables.module_ref) (bytes_at rows t columns.module_ref_name)
 
 -- of a row by itself, without its scope
-unfoldable pub row_key : Rows → Token → Mix
-row_key rows t =
+unfoldable pub reference_key : Rows → Token → Mix
+reference_key rows t =
     if t.table == tables.type_ref then names_key rows t
     else if t.table == tables.assembly_ref then assembly_ref_key rows t
     else if t.table == tables.module_ref then module_ref_key rows t
     else token_key t
 
 -- of a token by itself: one that names no row is alike itself alone
-unfoldable pub own_key : Rows → Token → Mix
-own_key rows t = if is_some (rows t) then row_key rows t else token_key t
+unfoldable pub single_key : Rows → Token → Mix
+single_key rows t = if is_some (rows t) then reference_key rows t else token_key t
 
 -- the scope of a TypeRef; of any other token itself
 unfoldable pub scope_of : Rows → Token → Token
@@ -64,7 +64,7 @@ joined a b = record { mix = mixed_both a.mix b.mix; end = b.end }
 
 -- the keys of a token and of the scopes around it, 2 ^ level in all, and the scope behind them
 unfoldable pub near : Rows → ℕ → Token → Near
-near rows zero t = record { mix = own_key rows t; end = scope_of rows t }
+near rows zero t = record { mix = single_key rows t; end = scope_of rows t }
 near rows (suc level) t = joined (near rows level t) (near rows level (near rows level t).end)
 
 -- so many scopes more
@@ -80,7 +80,7 @@ inner rows t = onward rows (onward rows (onward rows (near rows 6 t) 5) 1) 0
 
 -- of the scope where likeness ends: a TypeRef is alike itself alone there
 unfoldable pub end_key : Rows → Token → Mix
-end_key rows t = if t.table == tables.type_ref then token_key t else own_key rows t
+end_key rows t = if t.table == tables.type_ref then token_key t else single_key rows t
 
 -- with the scope behind them
 abbrev pub ended : Rows → Near → Mix
@@ -88,11 +88,11 @@ ended rows a = mixed_both a.mix (end_key rows a.end)
 
 -- of a token that is no TypeSpec
 unfoldable pub ref_key : Rows → Token → Mix
-ref_key rows t = if t.table == tables.type_ref then ended rows (outer rows t) else own_key rows t
+ref_key rows t = if t.table == tables.type_ref then ended rows (outer rows t) else single_key rows t
 
 -- of any token in the signature of a TypeSpec, where a TypeSpec is alike itself alone
 unfoldable pub inner_key : Rows → Token → Mix
-inner_key rows t = if t.table == tables.type_ref then ended rows (inner rows t) else own_key rows t
+inner_key rows t = if t.table == tables.type_ref then ended rows (inner rows t) else single_key rows t
 
 -- of the signature of a TypeSpec: its shape
 unfoldable pub spec_shape : Rows → List ℕ → Mix

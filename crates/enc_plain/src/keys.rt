@@ -1,7 +1,7 @@
 //! Keys of tokens and signatures: mixes that alike ones have in common, by which those that may be
 //! alike are found.
 ghost use Rattle.std.specs.Prelude.{◌≡◌};
-ghost use Rattle.enc_plain.specs.Keys.{token_key, name_mix, names_key, version_key, assembly_ref_key, module_ref_key, row_key, own_key, scope_of};
+ghost use Rattle.enc_plain.specs.Keys.{token_key, name_mix, names_key, version_key, assembly_ref_key, module_ref_key, reference_key, single_key, scope_of};
 ghost use Rattle.enc_plain.specs.Rows.{token_at, bytes_at};
 ghost use Rattle.enc_base.specs.Tables.{assembly_ref, module_ref, type_ref, type_spec};
 
@@ -102,9 +102,9 @@ fn module_ref_key<R: CellView>(rows: &R, token: Token) -> Mix
 }
 
 /// The key of a row by itself, without its scope.
-#[tactic(auto, unfolding(crate::specs::Keys::row_key))]
-fn row_key<R: CellView>(rows: &R, token: Token) -> Mix
-    ensures { result ≡ row_key (R.rows rows.now) token }
+#[tactic(auto, unfolding(crate::specs::Keys::reference_key))]
+fn reference_key<R: CellView>(rows: &R, token: Token) -> Mix
+    ensures { result ≡ reference_key (R.rows rows.now) token }
 {
     if token.table == TYPE_REF {
         return names_key(rows, token);
@@ -119,12 +119,12 @@ fn row_key<R: CellView>(rows: &R, token: Token) -> Mix
 }
 
 /// The key of a token by itself. One that names no row is alike itself alone.
-#[tactic(auto, unfolding(crate::specs::Keys::own_key))]
-pub fn own_key<R: CellView>(rows: &R, token: Token) -> Mix
-    ensures { result ≡ own_key (R.rows rows.now) token }
+#[tactic(auto, unfolding(crate::specs::Keys::single_key))]
+pub fn single_key<R: CellView>(rows: &R, token: Token) -> Mix
+    ensures { result ≡ single_key (R.rows rows.now) token }
 {
     if rows.has(token) {
-        return row_key(rows, token);
+        return reference_key(rows, token);
     }
     token_key(token)
 }

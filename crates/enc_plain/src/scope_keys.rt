@@ -2,10 +2,10 @@
 //! of half as many. What is asked again is remembered, so scopes cost what their number does, however
 //! deep they stand in one another and whether they lead back to themselves or not.
 ghost use Rattle.std.specs.Prelude.{◌≡◌, IfSome};
-ghost use Rattle.enc_plain.specs.Keys.{own_key, near, onward, outer, inner, end_key, ended, ref_key, inner_key};
+ghost use Rattle.enc_plain.specs.Keys.{single_key, near, onward, outer, inner, end_key, ended, ref_key, inner_key};
 
 use crate::cells::CellView;
-use crate::keys::{own_key, scope_of, token_key};
+use crate::keys::{single_key, scope_of, token_key};
 use crate::near::{Near, joined};
 use enc_base::Token;
 use enc_base::tables::TYPE_REF;
@@ -75,7 +75,7 @@ impl<'a, R: CellView> ScopeKeys<'a, R> {
         ensures { result ≡ near (R.rows self.now) 0 token }
     {
         Near {
-            mix: own_key(self.rows, token),
+            mix: single_key(self.rows, token),
             end: scope_of(self.rows, token),
         }
     }
@@ -135,7 +135,7 @@ impl<'a, R: CellView> ScopeKeys<'a, R> {
     /// The key of a token by itself.
     #[tactic(auto, unfolding(crate::specs::Keys::near))]
     fn own(&self, token: Token) -> Mix
-        ensures { result ≡ own_key (R.rows self.now) token }
+        ensures { result ≡ single_key (R.rows self.now) token }
     {
         self.near(0, token).mix
     }
