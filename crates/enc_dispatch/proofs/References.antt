@@ -7,7 +7,7 @@ use Rattle.enc_base.specs.Token.{nil, is_token}
 use Rattle.enc_base.specs.declared.token.Token.{Token}
 use Rattle.enc_plain.specs.Alike.{are_rows, type_refs_alike, assembly_refs_alike, module_refs_alike, refs_alike, type_specs_alike, tokens_alike, signatures_alike}
 use Rattle.enc_plain.specs.Cell.{Cell, number, text, blob, guid, refer, body, field}
-use Rattle.enc_plain.specs.Keys.{token_key, names_key, version_key, assembly_ref_key, module_ref_key, reference_key, single_key, scope_of, near, joined, onward, outer, inner, end_key, ended, ref_key, inner_key, spec_shape, spec_key, key_of, signature_key}
+use Rattle.enc_plain.specs.Keys.{token_key, names_key, version_key, assembly_ref_key, module_ref_key, reference_key, single_key, scope_of, near, scopes_joined, scope_onward, outer, inner, end_key, scope_ended, ref_key, inner_key, spec_shape, spec_key, key_of, signature_key}
 use Rattle.enc_plain.specs.declared.near.Near.{Near}
 use Rattle.enc_plain.specs.Module.{Module, has_row, cells_of, cell_of}
 use Rattle.enc_plain.specs.Rows.{Rows, number_of_cell, bytes_of_cell, token_of_cell, number_at, bytes_at, token_at}
@@ -352,17 +352,17 @@ near_same m n zero t sound stay known =
     record { same = rw (own_same m n stay t known, scope.0) refl; known = scope.1 }
 near_same m n (suc k) t sound stay known = onward_same m n k (near (cells_of n) k t) (near (cells_of m) k t) sound stay (near_same m n k t sound stay known) (λ u h. near_same m n k u sound stay h)
   where
-    onward_same : (m n : Module) (k : ℕ) (x y : Near) → IsSound m → RefsStay m n → AreSameNear m x y → ((u : Token) → Known m u → AreSameNear m (near (cells_of n) k u) (near (cells_of m) k u)) → AreSameNear m (onward (cells_of n) x k) (onward (cells_of m) y k)
+    onward_same : (m n : Module) (k : ℕ) (x y : Near) → IsSound m → RefsStay m n → AreSameNear m x y → ((u : Token) → Known m u → AreSameNear m (near (cells_of n) k u) (near (cells_of m) k u)) → AreSameNear m (scope_onward (cells_of n) x k) (scope_onward (cells_of m) y k)
     onward_same m n k x y sound stay h step = let next = step y.end h.known in record { same = rw (h.same, next.same) refl; known = next.known }
 
-onward_stays : (m n : Module) (k : ℕ) (x y : Near) → IsSound m → RefsStay m n → AreSameNear m x y → AreSameNear m (onward (cells_of n) x k) (onward (cells_of m) y k)
+onward_stays : (m n : Module) (k : ℕ) (x y : Near) → IsSound m → RefsStay m n → AreSameNear m x y → AreSameNear m (scope_onward (cells_of n) x k) (scope_onward (cells_of m) y k)
 onward_stays m n k x y sound stay h = let next = near_same m n k y.end sound stay h.known in record { same = rw (h.same, next.same) refl; known = next.known }
 
 end_same : (m n : Module) → RefsStay m n → SameKey m n end_key
 unfolding end_key
 end_same m n stay t known = rw (own_same m n stay t known) refl
 
-ended_same : (m n : Module) (x y : Near) → RefsStay m n → AreSameNear m x y → ended (cells_of n) x ≡ ended (cells_of m) y
+ended_same : (m n : Module) (x y : Near) → RefsStay m n → AreSameNear m x y → scope_ended (cells_of n) x ≡ scope_ended (cells_of m) y
 ended_same m n x y stay h = rw (h.same, end_same m n stay y.end h.known) refl
 
 ref_key_same : (m n : Module) → IsSound m → RefsStay m n → SameKey m n ref_key
@@ -370,7 +370,7 @@ unfolding ref_key outer
 ref_key_same m n sound stay t known =
     let x = near_same m n 6 t sound stay known in
     let y = onward_stays m n 5 (near (cells_of n) 6 t) (near (cells_of m) 6 t) sound stay x in
-    let z = onward_stays m n 2 (onward (cells_of n) (near (cells_of n) 6 t) 5) (onward (cells_of m) (near (cells_of m) 6 t) 5) sound stay y in
+    let z = onward_stays m n 2 (scope_onward (cells_of n) (near (cells_of n) 6 t) 5) (scope_onward (cells_of m) (near (cells_of m) 6 t) 5) sound stay y in
     rw (ended_same m n (outer (cells_of n) t) (outer (cells_of m) t) stay z, own_same m n stay t known) refl
 
 inner_key_same : (m n : Module) → IsSound m → RefsStay m n → SameKey m n inner_key
@@ -378,8 +378,8 @@ unfolding inner_key inner
 inner_key_same m n sound stay t known =
     let x = near_same m n 6 t sound stay known in
     let y = onward_stays m n 5 (near (cells_of n) 6 t) (near (cells_of m) 6 t) sound stay x in
-    let z = onward_stays m n 1 (onward (cells_of n) (near (cells_of n) 6 t) 5) (onward (cells_of m) (near (cells_of m) 6 t) 5) sound stay y in
-    let w = onward_stays m n 0 (onward (cells_of n) (onward (cells_of n) (near (cells_of n) 6 t) 5) 1) (onward (cells_of m) (onward (cells_of m) (near (cells_of m) 6 t) 5) 1) sound stay z in
+    let z = onward_stays m n 1 (scope_onward (cells_of n) (near (cells_of n) 6 t) 5) (scope_onward (cells_of m) (near (cells_of m) 6 t) 5) sound stay y in
+    let w = onward_stays m n 0 (scope_onward (cells_of n) (scope_onward (cells_of n) (near (cells_of n) 6 t) 5) 1) (scope_onward (cells_of m) (scope_onward (cells_of m) (near (cells_of m) 6 t) 5) 1) sound stay z in
     rw (ended_same m n (inner (cells_of n) t) (inner (cells_of m) t) stay w, own_same m n stay t known) refl
 
 spec_there : (m n : Module) (t : Token) → IsSound m → RefsStay m n → Known m t → t.table ≡ 0x1B → spec_key (cells_of n) t ≡ spec_key (cells_of m) t

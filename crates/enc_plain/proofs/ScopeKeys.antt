@@ -10,11 +10,11 @@ use Rattle.enc_sigs.specs.Mix.{mixed_both}
 use Rattle.enc_sigs.proofs.Shared.{both_left, both_right, or_else_right, token_is}
 use Rattle.enc_plain.specs.Rows.{Rows, number_at, bytes_at, token_at}
 use Rattle.enc_plain.specs.Alike.{are_rows, same_number, same_bytes, type_refs_alike, assembly_refs_alike, module_refs_alike, refs_alike}
-use Rattle.enc_plain.specs.Keys.{token_key, names_key, version_key, assembly_ref_key, module_ref_key, reference_key, single_key, scope_of, near, joined, onward, outer, inner, end_key, ended, ref_key, inner_key}
+use Rattle.enc_plain.specs.Keys.{token_key, names_key, version_key, assembly_ref_key, module_ref_key, reference_key, single_key, scope_of, near, scopes_joined, scope_onward, outer, inner, end_key, scope_ended, ref_key, inner_key}
 use Rattle.enc_plain.specs.declared.near.Near.{Near}
 use Rattle.enc_plain.proofs.Scopes.{refs_same}
 
-pub near_more : (rows : Rows) (k : ℕ) (t : Token) (a : Near) → a ≡ near rows k t → joined a (near rows k a.end) ≡ near rows (k + 1) t
+pub near_more : (rows : Rows) (k : ℕ) (t : Token) (a : Near) → a ≡ near rows k t → scopes_joined a (near rows k a.end) ≡ near rows (k + 1) t
 unfolding near
 near_more rows k t a e = let more : k + 1 ≡ suc k = omega arith in rw (more, e) refl
 
@@ -199,7 +199,7 @@ record AreNears (rows : Rows) (d : ℕ) (x y : Near) : Type 0 where
   pub mix : x.mix ≡ y.mix
   pub end : AreNearby rows d x.end y.end
 
-joined_one : (rows : Rows) (d e : ℕ) (x y u v : Near) → AreNears rows d x y → AreNears rows e u v → AreNears rows e (joined x u) (joined y v)
+joined_one : (rows : Rows) (d e : ℕ) (x y u v : Near) → AreNears rows d x y → AreNears rows e u v → AreNears rows e (scopes_joined x u) (scopes_joined y v)
 joined_one rows d e x y u v first second = record { mix = rw (first.mix, second.mix) refl; end = second.end }
 
 near_one : (rows : Rows) (k d : ℕ) (a b : Token) → AreNearby rows d a b → AreNears rows (d - many k) (near rows k a) (near rows k b)
@@ -211,7 +211,7 @@ near_one rows (suc k) d a b h =
     let less : d - many k - many k ≡ d - (many k + many k) = omega arith in
     rw (sym less) (joined_one rows (d - many k) (d - many k - many k) (near rows k a) (near rows k b) (near rows k (near rows k a).end) (near rows k (near rows k b).end) first second)
 
-onward_one : (rows : Rows) (k d : ℕ) (x y : Near) → AreNears rows d x y → AreNears rows (d - many k) (onward rows x k) (onward rows y k)
+onward_one : (rows : Rows) (k d : ℕ) (x y : Near) → AreNears rows d x y → AreNears rows (d - many k) (scope_onward rows x k) (scope_onward rows y k)
 onward_one rows k d x y h = joined_one rows d (d - many k) x y (near rows k x.end) (near rows k y.end) h (near_one rows k d x.end y.end h.end)
 
 -- where no depth is left, both end in one token, or in alike references without a scope
@@ -220,23 +220,23 @@ unfolding refs_alike end_key
 ends_one rows a b (inl h) = ap (end_key rows) (token_is a b h)
 ends_one rows a b (inr e) = rw (e.first, e.second) e.own
 
-ended_one : (rows : Rows) (x y : Near) → AreNears rows 0 x y → ended rows x ≡ ended rows y
+ended_one : (rows : Rows) (x y : Near) → AreNears rows 0 x y → scope_ended rows x ≡ scope_ended rows y
 ended_one rows x y h = rw (h.mix, ends_one rows x.end y.end h.end) refl
 
-outer_one : (rows : Rows) (a b : Token) → refs_alike rows 100 a b ≡ true → ended rows (outer rows a) ≡ ended rows (outer rows b)
+outer_one : (rows : Rows) (a b : Token) → refs_alike rows 100 a b ≡ true → scope_ended rows (outer rows a) ≡ scope_ended rows (outer rows b)
 unfolding outer
 outer_one rows a b h =
     let x = near_one rows 6 100 a b (inl h) in
     let y = onward_one rows 5 36 (near rows 6 a) (near rows 6 b) x in
-    ended_one rows (onward rows (onward rows (near rows 6 a) 5) 2) (onward rows (onward rows (near rows 6 b) 5) 2) (onward_one rows 2 4 (onward rows (near rows 6 a) 5) (onward rows (near rows 6 b) 5) y)
+    ended_one rows (scope_onward rows (scope_onward rows (near rows 6 a) 5) 2) (scope_onward rows (scope_onward rows (near rows 6 b) 5) 2) (onward_one rows 2 4 (scope_onward rows (near rows 6 a) 5) (scope_onward rows (near rows 6 b) 5) y)
 
-inner_one : (rows : Rows) (a b : Token) → refs_alike rows 99 a b ≡ true → ended rows (inner rows a) ≡ ended rows (inner rows b)
+inner_one : (rows : Rows) (a b : Token) → refs_alike rows 99 a b ≡ true → scope_ended rows (inner rows a) ≡ scope_ended rows (inner rows b)
 unfolding inner
 inner_one rows a b h =
     let x = near_one rows 6 99 a b (inl h) in
     let y = onward_one rows 5 35 (near rows 6 a) (near rows 6 b) x in
-    let z = onward_one rows 1 3 (onward rows (near rows 6 a) 5) (onward rows (near rows 6 b) 5) y in
-    ended_one rows (inner rows a) (inner rows b) (onward_one rows 0 1 (onward rows (onward rows (near rows 6 a) 5) 1) (onward rows (onward rows (near rows 6 b) 5) 1) z)
+    let z = onward_one rows 1 3 (scope_onward rows (near rows 6 a) 5) (scope_onward rows (near rows 6 b) 5) y in
+    ended_one rows (inner rows a) (inner rows b) (onward_one rows 0 1 (scope_onward rows (scope_onward rows (near rows 6 a) 5) 1) (scope_onward rows (scope_onward rows (near rows 6 b) 5) 1) z)
 
 -- alike references are of one table
 one_table : (rows : Rows) (d : ℕ) (a b : Token) → refs_alike rows d a b ≡ true → a.table ≡ b.table
@@ -256,9 +256,9 @@ by_tests rows a b false x y is one keys own = let other : (b.table == 0x01) ≡ 
 -- alike references have one key
 pub refs_one : (rows : Rows) (a b : Token) → refs_alike rows 100 a b ≡ true → ref_key rows a ≡ ref_key rows b
 unfolding ref_key
-refs_one rows a b h = by_tests rows a b (a.table == 0x01) (ended rows (outer rows a)) (ended rows (outer rows b)) refl (one_table rows 100 a b h) (outer_one rows a b h) (own_one rows 100 a b (inl h))
+refs_one rows a b h = by_tests rows a b (a.table == 0x01) (scope_ended rows (outer rows a)) (scope_ended rows (outer rows b)) refl (one_table rows 100 a b h) (outer_one rows a b h) (own_one rows 100 a b (inl h))
 
 -- and inside TypeSpecs
 pub inners_one : (rows : Rows) (a b : Token) → refs_alike rows 99 a b ≡ true → inner_key rows a ≡ inner_key rows b
 unfolding inner_key
-inners_one rows a b h = by_tests rows a b (a.table == 0x01) (ended rows (inner rows a)) (ended rows (inner rows b)) refl (one_table rows 99 a b h) (inner_one rows a b h) (own_one rows 99 a b (inl h))
+inners_one rows a b h = by_tests rows a b (a.table == 0x01) (scope_ended rows (inner rows a)) (scope_ended rows (inner rows b)) refl (one_table rows 99 a b h) (inner_one rows a b h) (own_one rows 99 a b (inl h))

@@ -59,40 +59,40 @@ unfoldable pub scope_of : Rows → Token → Token
 scope_of rows t = if t.table == tables.type_ref then token_at rows t columns.type_ref_resolution_scope else t
 
 -- one key behind another, and where the second ends
-abbrev pub joined : Near → Near → Near
-joined a b = record { mix = mixed_both a.mix b.mix; end = b.end }
+abbrev pub scopes_joined : Near → Near → Near
+scopes_joined a b = record { mix = mixed_both a.mix b.mix; end = b.end }
 
 -- the keys of a token and of the scopes around it, 2 ^ level in all, and the scope behind them
 unfoldable pub near : Rows → ℕ → Token → Near
 near rows zero t = record { mix = single_key rows t; end = scope_of rows t }
-near rows (suc level) t = joined (near rows level t) (near rows level (near rows level t).end)
+near rows (suc level) t = scopes_joined (near rows level t) (near rows level (near rows level t).end)
 
 -- so many scopes more
-abbrev pub onward : Rows → Near → ℕ → Near
-onward rows a level = joined a (near rows level a.end)
+abbrev pub scope_onward : Rows → Near → ℕ → Near
+scope_onward rows a level = scopes_joined a (near rows level a.end)
 
 -- of a token and 99 scopes around it, as likeness follows them, and inside the signature of a TypeSpec of 98
 unfoldable pub outer : Rows → Token → Near
-outer rows t = onward rows (onward rows (near rows 6 t) 5) 2
+outer rows t = scope_onward rows (scope_onward rows (near rows 6 t) 5) 2
 
 unfoldable pub inner : Rows → Token → Near
-inner rows t = onward rows (onward rows (onward rows (near rows 6 t) 5) 1) 0
+inner rows t = scope_onward rows (scope_onward rows (scope_onward rows (near rows 6 t) 5) 1) 0
 
 -- of the scope where likeness ends: a TypeRef is alike itself alone there
 unfoldable pub end_key : Rows → Token → Mix
 end_key rows t = if t.table == tables.type_ref then token_key t else single_key rows t
 
 -- with the scope behind them
-abbrev pub ended : Rows → Near → Mix
-ended rows a = mixed_both a.mix (end_key rows a.end)
+abbrev pub scope_ended : Rows → Near → Mix
+scope_ended rows a = mixed_both a.mix (end_key rows a.end)
 
 -- of a token that is no TypeSpec
 unfoldable pub ref_key : Rows → Token → Mix
-ref_key rows t = if t.table == tables.type_ref then ended rows (outer rows t) else single_key rows t
+ref_key rows t = if t.table == tables.type_ref then scope_ended rows (outer rows t) else single_key rows t
 
 -- of any token in the signature of a TypeSpec, where a TypeSpec is alike itself alone
 unfoldable pub inner_key : Rows → Token → Mix
-inner_key rows t = if t.table == tables.type_ref then ended rows (inner rows t) else single_key rows t
+inner_key rows t = if t.table == tables.type_ref then scope_ended rows (inner rows t) else single_key rows t
 
 -- of the signature of a TypeSpec: its shape
 unfoldable pub spec_shape : Rows → List ℕ → Mix

@@ -1,6 +1,6 @@
 //! Keys of tokens and of the scopes around them.
 ghost use Rattle.std.specs.Prelude.{◌≡◌};
-ghost use Rattle.enc_plain.specs.Keys.{joined};
+ghost use Rattle.enc_plain.specs.Keys.{scopes_joined};
 
 use enc_base::Token;
 use enc_sigs::{Mix, mixed_both};
@@ -15,8 +15,8 @@ pub struct Near {
 }
 
 /// One key behind another, and where the second ends.
-pub fn joined(first: Near, second: Near) -> Near
-    ensures { result ≡ joined first second }
+pub fn scopes_joined(first: Near, second: Near) -> Near
+    ensures { result ≡ scopes_joined first second }
 {
     Near {
         mix: mixed_both(first.mix, second.mix),

@@ -327,7 +327,7 @@ impl<'a, R: CellView> RefKeys<'a, R> {
 
     /// The key of the signature in a column of a row. Alike signatures of fields, methods or
     /// properties have one. It takes no memory.
-    pub fn reference_key(&self, row: Token, column: u8) -> u64
+    pub fn row_key(&self, row: Token, column: u8) -> u64
         requires { kind_in row.table column ≡ Some blobs }
         ensures { result ≡ signature_key (R.rows self.now) row.table (bytes_at (R.rows self.now) row column) }
     {

@@ -2,11 +2,11 @@
 //! of half as many. What is asked again is remembered, so scopes cost what their number does, however
 //! deep they stand in one another and whether they lead back to themselves or not.
 ghost use Rattle.std.specs.Prelude.{◌≡◌, IfSome};
-ghost use Rattle.enc_plain.specs.Keys.{single_key, near, onward, outer, inner, end_key, ended, ref_key, inner_key};
+ghost use Rattle.enc_plain.specs.Keys.{single_key, near, scope_onward, outer, inner, end_key, scope_ended, ref_key, inner_key};
 
 use crate::cells::CellView;
 use crate::keys::{single_key, scope_of, token_key};
-use crate::near::{Near, joined};
+use crate::near::{Near, scopes_joined};
 use enc_base::Token;
 use enc_base::tables::TYPE_REF;
 use enc_key_map::{Index, Key, KeyEntry};
@@ -88,7 +88,7 @@ impl<'a, R: CellView> ScopeKeys<'a, R> {
     {
         let mut near = self.first(token);
         for k in 0..level {
-            near = joined(near, self.near(k, near.end));
+            near = scopes_joined(near, self.near(k, near.end));
         }
         near
     }
@@ -105,10 +105,10 @@ impl<'a, R: CellView> ScopeKeys<'a, R> {
     }
 
     /// So many scopes more.
-    fn onward(&self, first: Near, level: u8) -> Near
-        ensures { result ≡ onward (R.rows self.now) first level }
+    fn scope_onward(&self, first: Near, level: u8) -> Near
+        ensures { result ≡ scope_onward (R.rows self.now) first level }
     {
-        joined(first, self.near(level, first.end))
+        scopes_joined(first, self.near(level, first.end))
     }
 
     /// The key of a token and of 99 scopes around it.
@@ -117,8 +117,8 @@ impl<'a, R: CellView> ScopeKeys<'a, R> {
         ensures { result ≡ outer (R.rows self.now) token }
     {
         let near = self.near(6, token);
-        let near = self.onward(near, 5);
-        self.onward(near, 2)
+        let near = self.scope_onward(near, 5);
+        self.scope_onward(near, 2)
     }
 
     /// The key of a token and of 98 scopes around it.
@@ -127,9 +127,9 @@ impl<'a, R: CellView> ScopeKeys<'a, R> {
         ensures { result ≡ inner (R.rows self.now) token }
     {
         let near = self.near(6, token);
-        let near = self.onward(near, 5);
-        let near = self.onward(near, 1);
-        self.onward(near, 0)
+        let near = self.scope_onward(near, 5);
+        let near = self.scope_onward(near, 1);
+        self.scope_onward(near, 0)
     }
 
     /// The key of a token by itself.
@@ -152,8 +152,8 @@ impl<'a, R: CellView> ScopeKeys<'a, R> {
     }
 
     /// With the scope behind them.
-    fn ended(&self, near: Near) -> Mix
-        ensures { result ≡ ended (R.rows self.now) near }
+    fn scope_ended(&self, near: Near) -> Mix
+        ensures { result ≡ scope_ended (R.rows self.now) near }
     {
         mixed_both(near.mix, self.end_key(near.end))
     }
@@ -164,7 +164,7 @@ impl<'a, R: CellView> ScopeKeys<'a, R> {
         ensures { result ≡ ref_key (R.rows self.now) token }
     {
         if token.table == TYPE_REF {
-            return self.ended(self.outer(token));
+            return self.scope_ended(self.outer(token));
         }
         self.own(token)
     }
@@ -175,7 +175,7 @@ impl<'a, R: CellView> ScopeKeys<'a, R> {
         ensures { result ≡ inner_key (R.rows self.now) token }
     {
         if token.table == TYPE_REF {
-            return self.ended(self.inner(token));
+            return self.scope_ended(self.inner(token));
         }
         self.own(token)
     }
@@ -202,7 +202,7 @@ impl<'a, R: CellView> ScopeKeys<'a, R> {
         let mut near = self.first(token);
         for k in 0..level {
             self.learn_near(alloc, k, near.end)?;
-            near = joined(near, self.near(k, near.end));
+            near = scopes_joined(near, self.near(k, near.end));
         }
         self.put(alloc, level, token, near)
     }
@@ -214,8 +214,8 @@ impl<'a, R: CellView> ScopeKeys<'a, R> {
         self.learn_near(alloc, 6, token)?;
         let near = self.near(6, token);
         self.learn_near(alloc, 5, near.end)?;
-        let near = self.onward(near, 5);
+        let near = self.scope_onward(near, 5);
         self.learn_near(alloc, 2, near.end)?;
-        self.learn_near(alloc, 0, self.onward(near, 2).end)
+        self.learn_near(alloc, 0, self.scope_onward(near, 2).end)
     }
 }
