@@ -11,7 +11,7 @@ use Rattle.enc_key_map.specs.Index.{value_at, entry_key, value_of, latest_one, e
 use Rattle.enc_sigs.specs.declared.mix.Mix.{Mix}
 use Rattle.enc_sigs.proofs.Shared.{both_left, both_right}
 use Rattle.enc_plain.specs.Rows.{Rows}
-use Rattle.enc_plain.specs.Keys.{near, spec_shape, key_of, signature_key, AreMixes, AreKeys, AreNear, AreOfBlobs, AreSignatureKeys, AreSpecShapes}
+use Rattle.enc_plain.specs.Keys.{near, spec_shape, key_of, signature_key, AreMixes, AreKeys, AreScopesNear, AreOfBlobs, AreSignatureKeys, AreSpecShapes}
 use Rattle.enc_plain.specs.declared.near.Near.{Near}
 
 none_given : (mix : Token → Mix) (index : Index Mix) → ((q : Key) → value_at index q ≡ None) → AreMixes mix index
@@ -41,7 +41,7 @@ none_learnt rows index none = none_given (key_of rows) index none
 pub more_learnt : (rows : Rows) (old new : Index Mix) (e : KeyEntry Mix) (t : Token) (v : Mix) → AreKeys rows old → v ≡ key_of rows t → entry_key e ≡ record { table = t.table; row = t.row; place = 0 } → value_of e ≡ v → ((q : Key) → value_at new q ≡ either (latest_one e q) (value_at old q)) → AreKeys rows new
 more_learnt rows old new e t v kept key place value puts = more_given (key_of rows) old new e t v kept key place value puts
 
-pub none_near : (rows : Rows) (index : Index Near) → ((q : Key) → value_at index q ≡ None) → AreNear rows index
+pub none_near : (rows : Rows) (index : Index Near) → ((q : Key) → value_at index q ≡ None) → AreScopesNear rows index
 none_near rows index none q k e = absurd_none (sym (none q) ∙ e)
   where
     absurd_none : None ≡ Some k → k ≡ near rows q.place (record { table = q.table; row = q.row })
@@ -57,7 +57,7 @@ near_test rows q key v k old true is here there e =
     let one : near rows key.place (record { table = key.table; row = key.row }) ≡ near rows q.place (record { table = q.table; row = q.row }) = rw (table, row, place) refl in
     sym (ap (λ (o : Option Near). unwrap_or o v) e) ∙ here ∙ one
 
-pub more_near : (rows : Rows) (old new : Index Near) (e : KeyEntry Near) (level : ℕ) (t : Token) (v : Near) → AreNear rows old → v ≡ near rows level t → entry_key e ≡ record { table = t.table; row = t.row; place = level } → value_of e ≡ v → ((q : Key) → value_at new q ≡ either (latest_one e q) (value_at old q)) → AreNear rows new
+pub more_near : (rows : Rows) (old new : Index Near) (e : KeyEntry Near) (level : ℕ) (t : Token) (v : Near) → AreScopesNear rows old → v ≡ near rows level t → entry_key e ≡ record { table = t.table; row = t.row; place = level } → value_of e ≡ v → ((q : Key) → value_at new q ≡ either (latest_one e q) (value_at old q)) → AreScopesNear rows new
 more_near rows old new e level t v kept key place value puts q k is =
     let here : value_of e ≡ near rows (entry_key e).place (record { table = (entry_key e).table; row = (entry_key e).row }) = value ∙ key ∙ sym (ap (λ (p : Key). near rows p.place (record { table = p.table; row = p.row })) place) in
     near_test rows q (entry_key e) (value_of e) k (value_at old q) (is_key (entry_key e) q) refl here (kept q k) (sym (puts q) ∙ is)

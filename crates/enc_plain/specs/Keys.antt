@@ -138,6 +138,6 @@ abbrev pub AreKeys : Rows → Index Mix → Type 0
 AreKeys rows = AreMixes (key_of rows)
 
 -- an index has none but the keys of tokens and of scopes around them, by the token and the level
-abbrev pub AreNear : Rows → Index Near → Type 0
-AreNear rows index = (q : Key) (a : Near) → value_at index q ≡ Some a
+abbrev pub AreScopesNear : Rows → Index Near → Type 0
+AreScopesNear rows index = (q : Key) (a : Near) → value_at index q ≡ Some a
     → a ≡ near rows q.place (record { table = q.table; row = q.row })

@@ -22,13 +22,13 @@ pub struct ScopeKeys<'a, R: CellView> {
 }
 
 impl<'a, R: CellView> Model for ScopeKeys<'a, R> {
-    ghost use Rattle.enc_plain.specs.Keys.{AreNear};
+    ghost use Rattle.enc_plain.specs.Keys.{AreScopesNear};
 
     ghost Value = { R };
 
     ghost view = { λ k. k.rows.now };
 
-    ghost invariant = { λ k. AreNear (R.rows k.rows.now) k.near };
+    ghost invariant = { λ k. AreScopesNear (R.rows k.rows.now) k.near };
 }
 
 /// What the key of 2 ^ level scopes stands by.
