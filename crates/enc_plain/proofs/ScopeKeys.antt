@@ -112,16 +112,16 @@ assemblies_are rows a b h =
     let h0 = both_left _ (same_number rows a b 1) h1 in
     let t = of_table rows 0x23 a b (both_left (are_rows rows 0x23 a b) (same_number rows a b 0) h0) in
     let version = versions_one rows a b
-        (numbers_are rows a b 0 (both_right (are_rows rows 0x23 a b) (same_number rows a b 0) h0))
-        (numbers_are rows a b 1 (both_right _ (same_number rows a b 1) h1))
-        (numbers_are rows a b 2 (both_right _ (same_number rows a b 2) h2))
-        (numbers_are rows a b 3 (both_right _ (same_number rows a b 3) h3))
-        (numbers_are rows a b 4 (both_right _ (same_number rows a b 4) h4)) in
+    (numbers_are rows a b 0 (both_right (are_rows rows 0x23 a b) (same_number rows a b 0) h0))
+    (numbers_are rows a b 1 (both_right _ (same_number rows a b 1) h1))
+    (numbers_are rows a b 2 (both_right _ (same_number rows a b 2) h2))
+    (numbers_are rows a b 3 (both_right _ (same_number rows a b 3) h3))
+    (numbers_are rows a b 4 (both_right _ (same_number rows a b 4) h4)) in
     let columns = columns_one rows a b version
-        (bytes_are rows a b 5 (both_right _ (same_bytes rows a b 5) h5))
-        (bytes_are rows a b 6 (both_right _ (same_bytes rows a b 6) h6))
-        (bytes_are rows a b 7 (both_right _ (same_bytes rows a b 7) h7))
-        (bytes_are rows a b 8 (both_right _ (same_bytes rows a b 8) h)) in
+    (bytes_are rows a b 5 (both_right _ (same_bytes rows a b 5) h5))
+    (bytes_are rows a b 6 (both_right _ (same_bytes rows a b 6) h6))
+    (bytes_are rows a b 7 (both_right _ (same_bytes rows a b 7) h7))
+    (bytes_are rows a b 8 (both_right _ (same_bytes rows a b 8) h)) in
     record {
       own = own_there rows a t.left ∙ row_assembly_ref rows a t.first ∙ columns ∙ sym (row_assembly_ref rows b t.second) ∙ sym (own_there rows b t.right);
       first = ap (λ n. n == 0x01) t.first;

@@ -5,7 +5,7 @@ ghost use Rattle.std.specs.Prelude.{◌≡◌, IfSome};
 ghost use Rattle.enc_plain.specs.Keys.{single_key, near, scope_onward, outer, inner, end_key, scope_ended, ref_key, inner_key};
 
 use crate::cells::CellView;
-use crate::keys::{single_key, scope_of, token_key};
+use crate::keys::{scope_of, single_key, token_key};
 use crate::near::{Near, scopes_joined};
 use enc_base::Token;
 use enc_base::tables::TYPE_REF;
