@@ -7,7 +7,7 @@ use Rattle.enc_base.specs.Token.{nil, is_token}
 use Rattle.enc_base.specs.declared.token.Token.{Token}
 use Rattle.enc_plain.specs.Alike.{are_rows, type_refs_alike, assembly_refs_alike, module_refs_alike, refs_alike, type_specs_alike, tokens_alike, signatures_alike}
 use Rattle.enc_plain.specs.Cell.{Cell, number, text, blob, guid, refer, body, field}
-use Rattle.enc_plain.specs.Keys.{token_key, names_key, version_key, assembly_ref_key, module_ref_key, reference_key, single_key, scope_of, near, scopes_joined, scope_onward, outer, inner, end_key, scope_ended, ref_key, inner_key, spec_shape, spec_key, key_of, signature_key}
+use Rattle.enc_plain.specs.Keys.{token_key, names_key, version_key, assembly_ref_key, module_ref_key, reference_key, single_key, scope_of, near, scope_onward, outer, inner, end_key, scope_ended, ref_key, inner_key, spec_shape, spec_key, key_of, signature_key}
 use Rattle.enc_plain.specs.declared.near.Near.{Near}
 use Rattle.enc_plain.specs.Module.{Module, has_row, cells_of, cell_of}
 use Rattle.enc_plain.specs.Rows.{Rows, number_of_cell, bytes_of_cell, token_of_cell, number_at, bytes_at, token_at}

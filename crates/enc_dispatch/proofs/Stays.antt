@@ -28,7 +28,7 @@ use Rattle.enc_dispatch.specs.Parts.{EachPart}
 use Rattle.enc_plain.specs.ClassPath.{class_base}
 use Rattle.enc_dispatch.specs.Interfaces.{says_interface}
 use Rattle.enc_dispatch.specs.Slots.{shares_slot, shares_at, slot_in}
-use Rattle.enc_dispatch.specs.Stored.{impl_for, kind_of_local, IsClassPart, IsMethodPart, IsLocalsPart}
+use Rattle.enc_dispatch.specs.Stored.{impl_for, IsClassPart, IsMethodPart, IsLocalsPart}
 use Rattle.enc_dispatch.specs.Walked.{slot_at}
 use Rattle.enc_dispatch.specs.Walks.{method_at, is_virtual}
 use Rattle.enc_dispatch.proofs.Equivalence.{methods_equivalence, related_as}

@@ -1,6 +1,6 @@
 -- Alike tokens and signatures have one key.
-use Rattle.std.proofs.Common.{◌≡◌, ℕ, zero, suc, ◌-◌, ◌<◌, Bool, true, false, List, refl, sym, ap, ◌∙◌, inl, inr, ◌⊎◌, arith}
-use Rattle.std.specs.Prelude.{is_some, ◌&&◌, ◌||◌, ◌==◌, bytes_eq}
+use Rattle.std.proofs.Common.{◌≡◌, ℕ, zero, suc, ◌-◌, Bool, true, false, List, refl, sym, ap, ◌∙◌, inl, inr, ◌⊎◌, arith}
+use Rattle.std.specs.Prelude.{is_some, ◌||◌, ◌==◌, bytes_eq}
 use Rattle.std.proofs.lemmas.Bool.Decides.{nat_tests}
 use Rattle.std.proofs.lemmas.Slice.Eq.{bytes_eq-Decides}
 use Rattle.enc_base.specs.Token.{is_token}
@@ -14,8 +14,8 @@ use Rattle.enc_sigs.specs.declared.kind.SigKind.TheVariants.{TypeSpec}
 use Rattle.enc_sigs.proofs.Shared.{alike_have_one_shape, both_left, both_right, or_else_right, token_is}
 use Rattle.enc_plain.specs.Rows.{Rows, bytes_at}
 use Rattle.enc_plain.specs.Signatures.{kind_in_table}
-use Rattle.enc_plain.specs.Alike.{are_rows, same_bytes, type_refs_alike, assembly_refs_alike, module_refs_alike, refs_alike, type_specs_alike, tokens_alike, signatures_alike}
-use Rattle.enc_plain.specs.Keys.{inner_key, ref_key, spec_shape, spec_key, key_of, signature_key}
+use Rattle.enc_plain.specs.Alike.{are_rows, type_refs_alike, assembly_refs_alike, module_refs_alike, refs_alike, type_specs_alike, tokens_alike, signatures_alike}
+use Rattle.enc_plain.specs.Keys.{inner_key, spec_shape, spec_key, key_of, signature_key}
 use Rattle.enc_plain.proofs.ScopeKeys.{refs_one, inners_one}
 
 one_of : (p s q r : Bool) → (p || s || q || r) ≡ true → (p ≡ true) ⊎ ((s ≡ true) ⊎ ((q ≡ true) ⊎ (r ≡ true)))

@@ -6,11 +6,10 @@ use Rattle.std.proofs.lemmas.Slice.Eq.{bytes_eq-Decides}
 use Rattle.enc_base.specs.Token.{is_token}
 use Rattle.enc_base.specs.declared.token.Token.{Token}
 use Rattle.enc_sigs.specs.declared.mix.Mix.{Mix}
-use Rattle.enc_sigs.specs.Mix.{mixed_both}
-use Rattle.enc_sigs.proofs.Shared.{both_left, both_right, or_else_right, token_is}
+use Rattle.enc_sigs.proofs.Shared.{both_left, both_right, token_is}
 use Rattle.enc_plain.specs.Rows.{Rows, number_at, bytes_at, token_at}
 use Rattle.enc_plain.specs.Alike.{are_rows, same_number, same_bytes, type_refs_alike, assembly_refs_alike, module_refs_alike, refs_alike}
-use Rattle.enc_plain.specs.Keys.{token_key, names_key, version_key, assembly_ref_key, module_ref_key, reference_key, single_key, scope_of, near, scopes_joined, scope_onward, outer, inner, end_key, scope_ended, ref_key, inner_key}
+use Rattle.enc_plain.specs.Keys.{names_key, version_key, assembly_ref_key, module_ref_key, reference_key, single_key, scope_of, near, scopes_joined, scope_onward, outer, inner, end_key, scope_ended, ref_key, inner_key}
 use Rattle.enc_plain.specs.declared.near.Near.{Near}
 use Rattle.enc_plain.proofs.Scopes.{refs_same}
 

@@ -1,6 +1,6 @@
 -- Keys of tokens and signatures: mixes that alike ones have in common. They tell which are worth comparing; that
 -- keys are equal says nothing.
-use Rattle.std.specs.Prelude.{◌≡◌, ℕ, zero, suc, ◌+◌, ◌*◌, ◌^◌, Bool, true, false, is_some, ◌==◌, List, Option, Some, unwrap_or, if◌then◌else◌}
+use Rattle.std.specs.Prelude.{◌≡◌, ℕ, zero, suc, ◌+◌, ◌*◌, ◌^◌, is_some, ◌==◌, List, Option, Some, unwrap_or, if◌then◌else◌}
 use Rattle.enc_base.specs.declared.token.Token.{Token}
 use Rattle.enc_sigs.specs.Mix.{mix_of, mixed, mixed_both, mixed_ends, finished}
 use Rattle.enc_sigs.specs.declared.mix.Mix.{Mix}

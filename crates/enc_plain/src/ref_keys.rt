@@ -1,6 +1,5 @@
 //! Rows with the keys of those of their references that were asked for, so that each is found once.
 ghost use Rattle.std.specs.Prelude.{◌≡◌, ℕ, ◌+◌, ◌*◌, ◌^◌, ◌<◌, List, Some, IfSome, length, is_some};
-ghost use Rattle.enc_key_map.specs.declared.key.Key.{Key as TheKey};
 ghost use Rattle.enc_plain.specs.Cell.{blobs, kind_in};
 ghost use Rattle.enc_plain.specs.Keys.{inner_key, spec_shape, spec_key, key_of, signature_key};
 ghost use Rattle.enc_plain.specs.Rows.{bytes_at, AreStoredAt};

@@ -1,5 +1,5 @@
 //! Where each column of each table stands in its row, and its bytes, worked out once for a stream.
-ghost use Rattle.std.specs.Prelude.{◌≡◌, ◌+◌, ◌*◌, ◌<◌, ◌≤◌, ◌⊎◌, Some, IsSome, IfSome, length};
+ghost use Rattle.std.specs.Prelude.{◌≡◌, ◌+◌, ◌*◌, ◌<◌, ◌≤◌, ◌⊎◌, Some, IsSome, IfSome};
 ghost use Rattle.enc_schema.specs.Schema.{column_in};
 ghost use Rattle.enc_schema.specs.Widths.{width_of, space_of, row_width, column_start};
 ghost use Rattle.enc_rows.specs.Columns.{width_at, AreStarts, AreWidths};

@@ -1,9 +1,9 @@
 //! The rows of a table stream.
-ghost use Rattle.std.specs.Prelude.{◌≡◌, ℕ, ◌+◌, ◌*◌, ◌<◌, ◌≤◌, ◌^◌, ◌⊎◌, Bool, length, Some, IsTrue, IsSome, IfOk, IfSome, slice_index};
+ghost use Rattle.std.specs.Prelude.{◌≡◌, ℕ, ◌+◌, ◌*◌, ◌<◌, ◌≤◌, ◌^◌, ◌⊎◌, length, Some, IsTrue, IsSome, IfOk, IfSome, slice_index};
 ghost use Rattle.enc_meta.specs.Heaps.{part};
 ghost use Rattle.enc_schema.specs.Schema.{column_in};
-ghost use Rattle.enc_schema.specs.Widths.{width_of, space_of, row_width};
-ghost use Rattle.enc_rows.specs.Layout.{Layout, layout_of, whole_layout, stream_tables, laid_out, rows_of, stream_has_row, raw_cell, table_bytes, table_start, cell_place, number_of_width, IsWithin};
+ghost use Rattle.enc_schema.specs.Widths.{space_of, row_width};
+ghost use Rattle.enc_rows.specs.Layout.{Layout, layout_of, whole_layout, stream_tables, laid_out, rows_of, stream_has_row, raw_cell, table_start, cell_place, number_of_width, IsWithin};
 
 use crate::columns::Columns;
 use crate::form::Form;

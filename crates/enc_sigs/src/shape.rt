@@ -1,7 +1,6 @@
 //! The shapes of signatures: what those have in common that are equal but for alike tokens.
 ghost use Rattle.std.specs.Prelude.{◌≡◌, suc, ◌==◌, ◌||◌, option_map};
 ghost use Rattle.enc_base.specs.declared.token.Token.{Token};
-ghost use Rattle.enc_base.specs.Readers.{number_in};
 ghost use Rattle.enc_sigs.specs.Grammar.{byte_in, numeral_in};
 ghost use Rattle.enc_sigs.specs.Mix.{mix_of};
 ghost use Rattle.enc_sigs.specs.declared.mix.Mix.{Mix as TheMix};

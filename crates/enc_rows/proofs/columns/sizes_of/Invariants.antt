@@ -1,5 +1,4 @@
 use Rattle.std.proofs.Common.{◌≡◌, ℕ, ◌/◌, ◌%◌, ◌<◌, length, get_or}
-use Rattle.enc_schema.specs.Widths.{column_start}
 use Rattle.enc_rows.specs.Columns.{width_at}
 use Rattle.enc_rows.proofs.columns.sizes_of.Given as goal
 

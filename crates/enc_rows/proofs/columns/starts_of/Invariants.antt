@@ -1,6 +1,5 @@
 use Rattle.std.proofs.Common.{◌≡◌, ℕ, ◌/◌, ◌%◌, ◌<◌, length, get_or}
 use Rattle.enc_schema.specs.Widths.{column_start}
-use Rattle.enc_rows.specs.Columns.{width_at}
 use Rattle.enc_rows.proofs.columns.starts_of.Given as goal
 
 abbrev pub invariant-loop-at : goal.invariant-loop-at

@@ -1,5 +1,3 @@
-use Rattle.std.proofs.Common.{◌≡◌}
-use Rattle.enc_schema.specs.Widths.{column_start}
 use Rattle.enc_rows.proofs.NineColumns.{start_at, start_room}
 use Rattle.enc_rows.proofs.columns.Columns.start.Goals as goal
 
