@@ -12,6 +12,7 @@ pub mod ListsLog
 pub mod ListsChildren
 pub mod Placing
 pub mod Halves
+pub mod Ranges
 pub mod MembersBeside
 pub mod NearTwins
 pub mod CutBy

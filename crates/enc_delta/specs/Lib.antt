@@ -1,5 +1,6 @@
 pub mod Delta
 pub mod Rules
+pub mod Starts
 pub mod Seen
 pub mod Cells
 pub mod Context

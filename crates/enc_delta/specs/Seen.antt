@@ -11,6 +11,7 @@ use Rattle.enc_rows.specs.Layout.{IsWithin, rows_of}
 use Rattle.enc_rows.specs.Source.{Source}
 use Rattle.enc_delta.specs.declared.open.Opened.{Opened}
 use Rattle.enc_delta.specs.Delta.{delta_source, delta_of, map_token}
+use Rattle.enc_delta.specs.Starts.{AreTableStarts}
 use Rattle.enc_base.specs.Tables as tables
 
 -- a root and its tables with the file's bytes
@@ -38,13 +39,14 @@ pub record WasRead (s : Source) : Type 0 where
   pub code : AreBytes il
   pub read : delta_of metadata il ≡ Ok s
 
--- the root and the tables of a delta, and whether its map rises
-pub record IsRead (bytes il : List ℕ) (o : Opened) (rises : Bool) : Type 0 where
+-- the root and the tables of a delta, whether its map rises, and where its tables begin then
+pub record IsRead (bytes il : List ℕ) (o : Opened) (rises : Bool) (starts : List ℕ) : Type 0 where
   pub file : AreBytes bytes
   pub code : AreBytes il
   pub read : delta_of bytes il ≡ Ok (delta_source bytes il o.root o.tables)
   pub opened : IsDeltaOpened bytes o
   pub rising : IsTrue rises ↔ IsRising (delta_source bytes il o.root o.tables)
+  pub begin : IsTrue rises → AreTableStarts (delta_source bytes il o.root o.tables) starts
 
 -- what was read is the delta; what was refused is refused by the first rule; want of memory tells nothing
 abbrev pub ReadsDelta : Result Source ReadFault → Result Source Refusal → Type 0

@@ -10,31 +10,32 @@ ghost use Rattle.enc_base.specs.Token.{nth_row};
 ghost use Rattle.enc_delta.specs.Delta.{delta_of, delta_source, entry_at, loaded_code, map_token, log_in, map_in, listed};
 ghost use Rattle.enc_base.specs.declared.refusal.ReadFault.TheVariants.{Memory};
 ghost use Rattle.enc_delta.specs.Seen.{ReadsDelta, IsDeltaOpened, IsRising, WasRead};
+ghost use Rattle.enc_delta.specs.Starts.{lesser_in, IsCutIn, IsTableRange};
 ghost use Rattle.enc_base.specs.Tables.{enc_log, enc_map};
 
 use crate::code::{body_from, code_at};
 use crate::log_entry::LogEntry;
 use crate::open::{Opened, is_rising, open};
+use crate::starts::{MapRange, lesser_in, starts_of};
 use enc_base::tables::{ENC_LOG, ENC_MAP};
 use enc_base::{ReadFault, Steps, Token};
-use enc_meta::{HeapLengths, Heaps, Root, TextEnds};
+use enc_meta::{HeapLengths, Heaps};
 use enc_opcodes::CodeRef;
-use enc_rows::Tables;
 use enc_schema::column_of;
 use enc_schema::columns::{ENC_LOG_FUNC_CODE, ENC_LOG_TOKEN, ENC_MAP_TOKEN};
 use std::marker::Model;
 use std::sync::ledger::Ledger;
 
 /// The bytes of a delta, and where the parts of its metadata stand in them. Its cells aren't
-/// copied. `rises` says whether each token of EncMap has a greater number than those before it.
+/// copied. `rises` says whether each token of EncMap has a greater number than those before it, and
+/// then `starts` says where each table begins in it.
 #[derive(Drop)]
 pub struct Delta {
     meta: Vec<u8>,
     il: Vec<u8>,
-    root: Root,
-    ends: TextEnds,
-    tables: Tables,
+    opened: Opened,
     rises: bool,
+    starts: [u32; 65],
 }
 
 impl Model for Delta {
@@ -44,10 +45,9 @@ impl Model for Delta {
 
     ghost Value = { Source };
 
-    ghost view = { λ d. delta_source d.meta.items d.il.items d.root d.tables };
+    ghost view = { λ d. delta_source d.meta.items d.il.items d.opened.root d.opened.tables };
 
-    ghost invariant = { λ d. IsRead d.meta.items d.il.items
-        (record { root = d.root; ends = d.ends; tables = d.tables }) d.rises };
+    ghost invariant = { λ d. IsRead d.meta.items d.il.items d.opened d.rises d.starts };
 }
 
 /// The delta whose parts were read from these bytes.
@@ -57,19 +57,19 @@ fn delta_from(meta: Vec<u8>, il: Vec<u8>, opened: Opened, rises: bool) -> Delta
     requires rising { IsTrue rises ↔ IsRising (delta_source meta.items il.items opened.root opened.tables) }
     ensures { result ≡ delta_source meta.items il.items opened.root opened.tables }
 {
+    let starts = starts_of(&meta, &il, &opened, rises);
     Delta {
         meta,
         il,
-        root: opened.root,
-        ends: opened.ends,
-        tables: opened.tables,
+        opened,
         rises,
+        starts,
     }
 }
 
 impl Delta {
     /// Reads a delta. Refused is the first of F1, F2, F6 of its metadata. It takes no memory, and goes
-    /// over EncMap once.
+    /// over EncMap once; where it rises, it then finds each table in it by halves.
     pub fn read(meta: Vec<u8>, il: Vec<u8>) -> Result<Delta, ReadFault>
         ensures reads { ReadsDelta result (delta_of meta.items il.items) }
         ensures free { IfErr result (λ fault. fault ≢ Memory) }
@@ -98,12 +98,34 @@ impl Delta {
         self.rises
     }
 
+    /// Where the tokens of a table stand in a map that rises. It was found when the delta was read.
+    pub(crate) fn range(&self, table: u8) -> MapRange
+        requires rising { IsRising self.now }
+        requires table { table < 64 }
+        ensures { IsTableRange self.now table result }
+    {
+        MapRange {
+            start: self.starts[table as usize],
+            end: self.starts[table as usize + 1],
+        }
+    }
+
+    /// How many tokens of the map have a number less than this one, found by halves of a range that
+    /// the answer lies in.
+    pub(crate) fn below(&self, number: u64, range: MapRange) -> u32
+        requires rising { IsRising self.now }
+        requires range { IsCutIn self.now number range }
+        ensures { result ≡ lesser_in self.now number }
+    {
+        lesser_in(&self.meta, &self.il, &self.opened, number, range)
+    }
+
     /// The number of rows of a table.
     pub fn count(&self, table: u8) -> u32
         ensures count { result ≡ rows_of self.now.layout table }
         ensures few { result < 2 ^ 24 }
     {
-        self.tables.count(table)
+        self.opened.tables.count(table)
     }
 
     /// The number that stands in a cell. One step.
@@ -113,7 +135,7 @@ impl Delta {
         ensures raw { result ≡ raw_in self.now row column }
         ensures steps { steps.new ≡ steps.old + 1 }
     {
-        self.tables.raw(&self.meta, row, column, steps)
+        self.opened.tables.raw(&self.meta, row, column, steps)
     }
 
     /// The number that stands in a cell, for a caller that counts nothing; 0 where there is no such
@@ -122,11 +144,11 @@ impl Delta {
     pub fn cell(&self, row: Token, column: u8) -> u32
         ensures { result ≡ raw_in self.now row column }
     {
-        if row.row == 0 || row.row > self.tables.count(row.table) {
+        if row.row == 0 || row.row > self.opened.tables.count(row.table) {
             return 0;
         }
         match column_of(row.table, column) {
-            Some(_) => self.tables.cell(&self.meta, row, column),
+            Some(_) => self.opened.tables.cell(&self.meta, row, column),
             None => 0,
         }
     }
@@ -161,7 +183,7 @@ impl Delta {
     pub fn heaps(&self) -> Heaps<'_>
         ensures { result ≡ self.now.heaps }
     {
-        Heaps::with(&self.meta, &self.root, self.ends)
+        Heaps::with(&self.meta, &self.opened.root, self.opened.ends)
     }
 
     /// The bytes of `#Blob`.

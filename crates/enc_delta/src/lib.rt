@@ -23,6 +23,7 @@ mod rules;
 mod shared;
 mod siblings;
 mod signatures;
+mod starts;
 mod tables;
 mod twins;
 mod updates;

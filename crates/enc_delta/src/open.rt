@@ -1,8 +1,10 @@
 //! Opening a delta's metadata: its root, the ends of its texts and its tables.
-ghost use Rattle.std.specs.Prelude.{◌≡◌, ◌↔◌, IfOk, IsTrue};
+ghost use Rattle.std.specs.Prelude.{◌≡◌, ◌↔◌, ◌<◌, ◌^◌, IfOk, IsTrue};
+ghost use Rattle.enc_base.specs.Tables.{enc_map};
+ghost use Rattle.enc_base.specs.Token.{number_of};
 ghost use Rattle.enc_meta.specs.Heaps.{part};
-ghost use Rattle.enc_rows.specs.Layout.{IsWithin};
-ghost use Rattle.enc_delta.specs.Delta.{delta_layout, delta_of, delta_source};
+ghost use Rattle.enc_rows.specs.Layout.{IsWithin, rows_of};
+ghost use Rattle.enc_delta.specs.Delta.{delta_layout, delta_of, delta_source, map_token};
 ghost use Rattle.enc_delta.specs.Seen.{opened_delta, IsDeltaOpened, IsRising};
 
 use crate::delta::nth_row;
@@ -49,20 +51,29 @@ pub fn open(bytes: &[u8], il: &[u8]) -> Result<Opened, Refusal>
     }
 }
 
+/// The number of a token of EncMap, from 0. Of the code nothing is read.
+pub(crate) fn number_at(bytes: &[u8], il: &[u8], opened: &Opened, i: u32) -> u64
+    requires opened { IsDeltaOpened bytes.now opened.now }
+    requires there { i < rows_of opened.now.tables enc_map }
+    requires few { i < 2 ^ 24 }
+    ensures number { result ≡ number_of
+        (map_token (delta_source bytes.now il.now opened.now.root opened.now.tables) i) }
+    ensures few { result < 2 ^ 32 }
+{
+    let _ = il;
+    let tables = &opened.tables;
+    u64::from(tables.cell(bytes, nth_row(ENC_MAP, i), ENC_MAP_TOKEN))
+}
+
 /// Whether each token of EncMap has a greater number than those before it. Of the code nothing is
 /// read.
 pub fn is_rising(bytes: &[u8], il: &[u8], opened: &Opened) -> bool
     requires { IsDeltaOpened bytes.now opened.now }
     ensures { IsTrue result ↔ IsRising (delta_source bytes.now il.now opened.now.root opened.now.tables) }
 {
-    let _ = il;
     let mut least: u64 = 0;
     for i in 0..opened.tables.count(ENC_MAP) {
-        let n = u64::from(
-            opened
-                .tables
-                .cell(bytes, nth_row(ENC_MAP, i), ENC_MAP_TOKEN),
-        );
+        let n = number_at(bytes, il, opened, i);
         if n < least {
             return false;
         }

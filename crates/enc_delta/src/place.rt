@@ -1,15 +1,17 @@
 //! Where a token stands in a delta's map.
-ghost use Rattle.std.specs.Prelude.{◌≡◌, ◌+◌, ◌<◌, nat_lt};
-ghost use Rattle.std.specs.List.{count_by};
+ghost use Rattle.std.specs.Prelude.{◌≡◌, ◌+◌, ◌*◌, ◌<◌, ◌≤◌, ◌^◌, IfSome};
 ghost use Rattle.std.specs.List.Sorted.{IsNonDecreasingBy};
 ghost use Rattle.enc_base.specs.Token.{number_of, nil};
 ghost use Rattle.enc_delta.specs.Cuts.{is_number_of, IsCutBy};
-ghost use Rattle.enc_base.specs.declared.token.Token.{Token as TheToken};
-ghost use Rattle.enc_delta.specs.Delta.{map_in, listed, place_in};
+ghost use Rattle.enc_base.specs.Tables.{enc_map};
+ghost use Rattle.enc_rows.specs.Layout.{rows_of};
+ghost use Rattle.enc_delta.specs.Delta.{listed, place_in};
 ghost use Rattle.enc_delta.specs.Seen.{IsRising};
+ghost use Rattle.enc_delta.specs.Starts.{lesser_in, IsCutIn, StandsInMap};
 
 use crate::copy::is_module;
 use crate::delta::Delta;
+use crate::starts::MapRange;
 use enc_base::{Steps, Token};
 use std::sync::ledger::Ledger;
 
@@ -48,7 +50,10 @@ impl Delta {
         if token.table == 0 || !self.rises() {
             return self.place_by_scan(token);
         }
-        self.place_by_halves(token)
+        if token.table >= 64 || token.row > 0xff_ffff {
+            return self.place_far(token);
+        }
+        self.place_in_table(token)
     }
 
     /// The position of a token among its table's in the map, from 1. None where the map lacks it.
@@ -61,32 +66,38 @@ impl Delta {
         self.place(token)
     }
 
-    /// How many tokens of the map have a number less than this one.
-    fn below(&self, number: u64) -> u32
-        requires { IsRising self.now }
-        ensures { result ≡ count_by (λ (t : TheToken). nat_lt (number_of t) number) (map_in self.now) }
+    /// Where a token stands in the map if from it to the last of a range no row is left out: it is
+    /// looked at there, and None where another stands.
+    fn counted_back(&self, token: Token, range: MapRange) -> Option<u32>
+        requires within { range.end ≤ rows_of self.now.layout enc_map }
+        requires few { range.end < 2 ^ 24 }
+        ensures { IfSome result (StandsInMap self.now token) }
     {
-        let mut low = 0;
-        let mut high = self.map_len();
-        while low < high {
-            let middle = low + (high - low) / 2;
-            if u64::from(self.token(middle).number()) < number {
-                low = middle + 1;
-            } else {
-                high = middle;
-            }
+        if range.start >= range.end {
+            return None;
         }
-        low
+        let last = self.token(range.end - 1).row;
+        if token.row > last || last - token.row >= range.end - range.start {
+            return None;
+        }
+        let i = range.end - 1 - (last - token.row);
+        let found = self.token(i);
+        if found.table != token.table || found.row != token.row {
+            return None;
+        }
+        Some(i)
     }
 
-    /// The position by a search by halves, in a map that rises, of a table that the Module isn't in.
-    fn place_by_halves(&self, token: Token) -> Option<u32>
+    /// The position by a search by halves, in a map that rises, of a table that the Module isn't in
+    /// and that begins where the range does.
+    fn place_by_halves(&self, token: Token, range: MapRange) -> Option<u32>
         requires rising { IsRising self.now }
         requires table { 0 < token.table }
+        requires start { range.start ≡ lesser_in self.now (token.table * 0x1000000) }
+        requires range { IsCutIn self.now (number_of token) range }
         ensures { result ≡ place_in (listed self.now) token }
     {
-        let first = u64::from(token.table) * 0x100_0000;
-        let i = self.below(first + u64::from(token.row));
+        let i = self.below(number_of(token), range);
         if i >= self.map_len() {
             return None;
         }
@@ -94,7 +105,36 @@ impl Delta {
         if there.table != token.table || there.row != token.row {
             return None;
         }
-        Some(i - self.below(first) + 1)
+        Some(i - range.start + 1)
+    }
+
+    /// The position in a map that rises, where the table's number passes those of a table stream or
+    /// the row's has more than three bytes.
+    fn place_far(&self, token: Token) -> Option<u32>
+        requires rising { IsRising self.now }
+        requires table { 0 < token.table }
+        ensures { result ≡ place_in (listed self.now) token }
+    {
+        let end = self.map_len();
+        let first = u64::from(token.table) * 0x100_0000;
+        let start = self.below(first, MapRange { start: 0, end });
+        self.place_by_halves(token, MapRange { start, end })
+    }
+
+    /// The position in a map that rises, of a table that the Module isn't in: most often the rows of
+    /// a table follow one another, and two tokens are looked at.
+    fn place_in_table(&self, token: Token) -> Option<u32>
+        requires rising { IsRising self.now }
+        requires table { 0 < token.table }
+        requires few { token.table < 64 }
+        requires row { token.row < 2 ^ 24 }
+        ensures { result ≡ place_in (listed self.now) token }
+    {
+        let range = self.range(token.table);
+        match self.counted_back(token, range) {
+            Some(i) => Some(i - range.start + 1),
+            None => self.place_by_halves(token, range),
+        }
     }
 
     /// The position by a search from the front, in any map.

@@ -8,4 +8,5 @@ invariant_of-result c = record {
   read = c.requires.read;
   opened = c.requires.opened;
   rising = c.requires.rising;
+  begin = rw (c.deref.ensures.value, c.deref-2.ensures.value) at c.starts_of-starts.ensures;
 }

@@ -1,7 +1,7 @@
-use Rattle.std.proofs.Common.{◌≡◌, ℕ, ◌+◌, ◌-◌, refl, sym, ap, ◌∙◌, arith}
+use Rattle.std.proofs.Common.{◌≡◌, ℕ, ◌+◌, ◌-◌, refl, sym, ap, arith}
 use Rattle.enc_base.specs.Token.{number_of}
 use Rattle.enc_delta.specs.Delta.{map_token, delta_source}
-use Rattle.enc_delta.proofs.Halves.{map_column, number_read, rise_more, falls_back}
+use Rattle.enc_delta.proofs.Halves.{rise_more, falls_back}
 use Rattle.enc_delta.proofs.open.is_rising.Goals as goal
 
 pub loop-i-init : goal.loop-i-init
@@ -12,14 +12,11 @@ loop-i-init c = record {
   last = λ h. absurd (omega arith);
 }
 
-pub cell-requires-clause-column : goal.cell-requires-clause-column
-cell-requires-clause-column c = rw c.nth_row.ensures map_column
-
 pub loop-i-preserved : goal.loop-i-preserved
 loop-i-preserved c =
     let number = λ (k : ℕ). number_of (map_token (delta_source c.args.bytes.now c.args.il.now c.args.opened.now.root c.args.opened.now.tables) k) in
-    let read : number c.loop-i.i ≡ c.from-n.result = number_read c.args.bytes.now c.args.il.now c.args.opened.now c.loop-i.i c.cell.result c.requires (rw c.nth_row.ensures at c.cell.ensures) ∙ sym c.from-n.ensures in
-    let more = rise_more number c.loop-i.i c.loop-i.least c.from-n.result c.loop-i.invariant.under c.loop-i.invariant.rising read c.if-n-least.false in
+    let read : number c.loop-i.i ≡ c.number_at-n.result = sym c.number_at-n.ensures.number in
+    let more = rise_more number c.loop-i.i c.loop-i.least c.number_at-n.result c.loop-i.invariant.under c.loop-i.invariant.rising read c.if-n-least.false in
     let i_is : c.loop-i.i + 1 - 1 ≡ c.loop-i.i = omega arith in
     record {
       under = more.0;
@@ -31,8 +28,8 @@ loop-i-preserved c =
 pub returns-then-n-least : goal.returns-then-n-least
 returns-then-n-least c =
     let number = λ (k : ℕ). number_of (map_token (delta_source c.args.bytes.now c.args.il.now c.args.opened.now.root c.args.opened.now.tables) k) in
-    let read : number c.loop-i.i ≡ c.from-n.result = number_read c.args.bytes.now c.args.il.now c.args.opened.now c.loop-i.i c.cell.result c.requires (rw c.nth_row.ensures at c.cell.ensures) ∙ sym c.from-n.ensures in
-    (λ h. absurd cc, λ up. absurd (falls_back number c.loop-i.i c.loop-i.least c.from-n.result c.loop-i.invariant.none c.loop-i.invariant.last read c.if-n-least.true (λ j a. up j c.loop-i.i a (omega (arith, c.count-i-end.ensures.count)))))
+    let read : number c.loop-i.i ≡ c.number_at-n.result = sym c.number_at-n.ensures.number in
+    (λ h. absurd cc, λ up. absurd (falls_back number c.loop-i.i c.loop-i.least c.number_at-n.result c.loop-i.invariant.none c.loop-i.invariant.last read c.if-n-least.true (λ j a. up j c.loop-i.i a (omega (arith, c.count-i-end.ensures.count)))))
 
 pub returns : goal.returns
 returns c = (λ h j k a b. c.loop-i.invariant.rising j k a (omega arith), λ up. refl)
