@@ -7,7 +7,7 @@ ghost use Rattle.enc_schema.specs.Schema.{column_in};
 ghost use Rattle.enc_rows.specs.Layout.{rows_of, stream_has_row};
 ghost use Rattle.enc_rows.specs.Source.{raw_in};
 ghost use Rattle.enc_base.specs.Token.{nth_row};
-ghost use Rattle.enc_delta.specs.Delta.{delta_of, delta_source, entry_at, loaded_code, map_token, log_in, map_in, listed};
+ghost use Rattle.enc_delta.specs.Delta.{delta_of, delta_source, entry_at, loaded_code, map_token, log_in, map_in};
 ghost use Rattle.enc_base.specs.declared.refusal.ReadFault.TheVariants.{Memory};
 ghost use Rattle.enc_delta.specs.Seen.{ReadsDelta, IsDeltaOpened, IsRising, WasRead};
 ghost use Rattle.enc_delta.specs.Starts.{lesser_in, IsCutIn, IsTableRange};
