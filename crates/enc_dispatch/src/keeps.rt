@@ -12,7 +12,7 @@ use enc_base::tables::{
     ASSEMBLY_REF, INTERFACE_IMPL, METHOD_DEF, METHOD_IMPL, MODULE_REF, STAND_ALONE_SIG, TYPE_DEF,
     TYPE_REF, TYPE_SPEC,
 };
-use enc_plain::{KnownAlike, ModuleView, Viewed, is_row};
+use enc_plain::{CellView, KnownAlike, ModuleView, Viewed, is_row};
 use enc_schema::columns::{
     METHOD_DEF_FLAGS, METHOD_DEF_NAME, METHOD_DEF_SIGNATURE, TYPE_DEF_EXTENDS, TYPE_DEF_FLAGS,
 };

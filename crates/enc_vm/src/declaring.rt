@@ -11,7 +11,7 @@ use crate::touched::Touched;
 use crate::world::World;
 use enc_base::Token;
 use enc_machine_types::{find_type_constructor, is_constructor, is_static_method};
-use enc_plain::{ModuleView, Viewed};
+use enc_plain::{CellView, ModuleView, Viewed};
 use enc_schema::columns::{METHOD_DEF_FLAGS, TYPE_DEF_FLAGS};
 use std::alloc::{AllocError, Global};
 
