@@ -119,15 +119,24 @@ impl<C: ChainView> Context<'_, C> {
         row <= before || (row - before) as usize <= self.known.inserts[table as usize]
     }
 
-    /// The position of a token among its table's in EncMap, from 1. None where EncMap lacks it: where its
-    /// tokens rise, those in memory tell so.
+    /// The position of a token among its table's in EncMap, from 1. None where EncMap lacks it.
     fn place(&self, token: Token) -> Option<u32>
+        ensures { result ≡ place_in (listed self.now.delta) token }
+    {
+        match self.delta.place_counted(token) {
+            Some(place) => Some(place),
+            None => self.place_sought(token),
+        }
+    }
+
+    /// The position by a search: where EncMap's tokens rise, those in memory tell whether it has one.
+    fn place_sought(&self, token: Token) -> Option<u32>
         ensures { result ≡ place_in (listed self.now.delta) token }
     {
         if self.delta.rises() && !has_number(self.tokens(), number_of(token)) {
             return None;
         }
-        self.delta.place(token)
+        self.delta.place_sought(token)
     }
 
     /// The number that stands in a column of the delta's own row for a token.

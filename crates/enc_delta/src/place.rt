@@ -1,5 +1,5 @@
 //! Where a token stands in a delta's map.
-ghost use Rattle.std.specs.Prelude.{◌≡◌, ◌+◌, ◌*◌, ◌<◌, ◌≤◌, ◌^◌, IfSome};
+ghost use Rattle.std.specs.Prelude.{◌≡◌, ◌+◌, ◌*◌, ◌<◌, ◌≤◌, ◌^◌, Some, IfSome};
 ghost use Rattle.std.specs.List.Sorted.{IsNonDecreasingBy};
 ghost use Rattle.enc_base.specs.Token.{number_of, nil};
 ghost use Rattle.enc_delta.specs.Cuts.{is_number_of, IsCutBy};
@@ -47,13 +47,10 @@ impl Delta {
     pub fn place(&self, token: Token) -> Option<u32>
         ensures { result ≡ place_in (listed self.now) token }
     {
-        if token.table == 0 || !self.rises() {
-            return self.place_by_scan(token);
+        match self.place_counted(token) {
+            Some(place) => Some(place),
+            None => self.place_sought(token),
         }
-        if token.table >= 64 || token.row > 0xff_ffff {
-            return self.place_far(token);
-        }
-        self.place_in_table(token)
     }
 
     /// The position of a token among its table's in the map, from 1. None where the map lacks it.
@@ -121,20 +118,33 @@ impl Delta {
         self.place_by_halves(token, MapRange { start, end })
     }
 
-    /// The position in a map that rises, of a table that the Module isn't in: most often the rows of
-    /// a table follow one another, and two tokens are looked at.
-    fn place_in_table(&self, token: Token) -> Option<u32>
-        requires rising { IsRising self.now }
-        requires table { 0 < token.table }
-        requires few { token.table < 64 }
-        requires row { token.row < 2 ^ 24 }
-        ensures { result ≡ place_in (listed self.now) token }
+    /// The position of a token in a map that rises, where from it to its table's last no row is left
+    /// out, as most often: two tokens are looked at. None says nothing.
+    pub(crate) fn place_counted(&self, token: Token) -> Option<u32>
+        ensures { IfSome result (λ place. Some place ≡ place_in (listed self.now) token) }
     {
+        if token.table == 0 || token.table >= 64 || !self.rises() {
+            return None;
+        }
         let range = self.range(token.table);
         match self.counted_back(token, range) {
             Some(i) => Some(i - range.start + 1),
-            None => self.place_by_halves(token, range),
+            None => None,
         }
+    }
+
+    /// The position by a search: by halves of the table's tokens in a map that rises, and else from
+    /// the front.
+    pub(crate) fn place_sought(&self, token: Token) -> Option<u32>
+        ensures { result ≡ place_in (listed self.now) token }
+    {
+        if token.table == 0 || !self.rises() {
+            return self.place_by_scan(token);
+        }
+        if token.table >= 64 || token.row > 0xff_ffff {
+            return self.place_far(token);
+        }
+        self.place_by_halves(token, self.range(token.table))
     }
 
     /// The position by a search from the front, in any map.
