@@ -48,6 +48,8 @@ stands_with_room d room m s = record {
   interfaces = s.interfaces;
   links = s.links;
   buckets = s.buckets;
+  locals_count = s.locals_count;
+  locals = s.locals;
 }
 
 pub stands_same : (new old : DispatchParts) (room : Room) (m : Module) → new ≡ with_room room old → StandsForModule old m → StandsForModule new m
