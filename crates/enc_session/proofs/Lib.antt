@@ -1,6 +1,8 @@
 mod Contents
 mod Numbered
 mod Looked
+mod Short
+mod Unheard
 mod Passing
 mod Begun
 mod Turned

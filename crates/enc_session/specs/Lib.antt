@@ -7,3 +7,4 @@ pub mod StatesSeen
 pub mod Codes
 pub mod Recording
 pub mod RecordingSeen
+pub mod Room

@@ -17,6 +17,7 @@ ghost use Rattle.enc_session.specs.States.{state_text};
 
 use crate::applied::Applied;
 use crate::parts::Parts;
+use crate::room::write_units;
 use crate::states::push_state;
 use enc_base::{ReadFault, Token};
 use enc_checker::{Checked, Files, check};
@@ -119,7 +120,7 @@ impl Engine {
     {
         meaning_laws();
         self.parts.joined.rows().sound();
-        self.machine.write_units(self.parts.joined.rows(), task)
+        write_units(&self.machine, self.parts.joined.rows(), task)
     }
 
     /// How it stands with a task.

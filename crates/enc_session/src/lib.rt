@@ -13,6 +13,7 @@ mod newest;
 mod objects;
 mod parts;
 mod recording;
+mod room;
 mod session;
 mod states;
 mod values;

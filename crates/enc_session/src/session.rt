@@ -121,8 +121,10 @@ impl<W: Watcher> Session<W> {
         self.audience.given()
     }
 
-    /// Room for so many bytes, and for the lines that all watchers are gone. Nothing else that is seen changes.
-    fn make_room(&self, own: usize, out: &mut Vec<u8>) -> Result<(), AllocError>
+    /// Room for so many bytes, and for the lines that all watchers are gone, and how many bytes those are: none exactly
+    /// where no watcher is attached. Nothing else that is seen changes.
+    fn make_room(&self, own: usize, out: &mut Vec<u8>) -> Result<usize, AllocError>
+        ensures faults { IfOk result (λ faults. faults ≡ fault_room self.now.seated.seats) }
         ensures room { OnOk result (vec_len out.new + own + fault_room self.now.seated.seats ≤ vec_capacity out.new) }
         ensures same { out.new.items ≡ out.old.items }
     {
@@ -132,7 +134,8 @@ impl<W: Watcher> Session<W> {
         let Some(room) = own.checked_add(faults) else {
             return Err(AllocError);
         };
-        out.reserve(room)
+        out.reserve(room)?;
+        Ok(faults)
     }
 
     /// A new task that begins with a method: its number, or why there is none. `Limit` where there are 64 tasks, and
@@ -165,11 +168,14 @@ impl<W: Watcher> Session<W> {
         ensures kept { OnErr result (out.new.items ≡ out.old.items) }
     {
         let units = self.engine.write_units(task);
-        self.make_room(12 * units as usize + STEP_ROOM, out)?;
         let method = self.engine.method(task);
+        let faults = self.make_room(12 * units as usize + STEP_ROOM, out)?;
         let mut seen = Seen::nothing();
         let end = self.engine.step(task, &mut seen)?;
         push_step_lines(&self.engine, task, &seen, end, out);
+        if faults == 0 {
+            return Ok(end);
+        }
         let events = step_events(task, method, &seen, end);
         self.audience.tell(events.as_slice(), out);
         Ok(end)
